@@ -1,0 +1,3 @@
+// Programs as bytes: reading, typing and unfolding, and the inspection that goes through all three.
+pub mod command;
+pub mod fault;
