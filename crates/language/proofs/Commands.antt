@@ -3,7 +3,7 @@ use mathlib.Core.Path.{_≡_, refl, sym, ap, _∙_}
 use mathlib.Core.List.{List, [], _∷_}
 use Prim.Native.Nat.{ℕ, _-_, _<_}
 use native.Mathlib.Nat.{not-suc-le-zero, le-of-suc-le-suc}
-use lib.ListN.{length, getD, take, drop}
+use lib.ListN.{length, getD, take, drop, length-drop}
 use Rattle.std.proofs.shelf.Lists.{take-rest}
 use Rattle.std.specs.declared.result.Result.the-variants.{Ok}
 use Rattle.language.specs.declared.command.Command.{Command}
@@ -12,6 +12,9 @@ use Rattle.language.specs.Reading.{Read, commandOf, commandFrom}
 -- the bytes after the first n
 abbrev pub after : ℕ → List ℕ → List ℕ
 after n s = take (length s - n) (drop n s)
+
+pub length-after : (n : ℕ) (s : List ℕ) → length (after n s) ≡ length s - n
+length-after n s = ap length (take-rest s n) ∙ length-drop n s
 
 pub cut-one : (s : List ℕ) → 0 < length s → s ≡ getD s 0 0 ∷ after 1 s
 cut-one [] h = absurd (not-suc-le-zero h)

@@ -2,3 +2,5 @@ pub mod Refusals
 pub mod Outcomes
 pub mod Syntax
 pub mod Reading
+pub mod Outlines
+pub mod Grammar

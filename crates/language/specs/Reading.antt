@@ -52,3 +52,78 @@ commandOf whole place byte rest =
 abbrev pub commandFrom : (whole : ℕ) → List ℕ → Read Command
 commandFrom whole [] = Err (Ends whole)
 commandFrom whole (byte ∷ rest) = commandOf whole (whole - suc (length rest)) byte rest
+
+-- A type and an expression are prefix codes: a front that is already whole, or one that two parts follow.
+pub data Front (T : Type 0) : Type 0 where
+  done : T → Front T
+  fork : (T → T → T) → Front T
+
+-- what follows a front
+abbrev pub grow : {T : Type 0} → (List ℕ → Read T) → Front T → List ℕ → Read T
+grow part (done t) rest = Ok (t, rest)
+grow part (fork make) rest = andThen (part rest) (λ x. andThen (part (x .1)) (λ y. Ok (make (x .0) (y .0), y .1)))
+
+-- a tree of at most `depth` fronts one inside the other; as many as there are bytes are enough for all
+unfoldable pub treeFrom : {T : Type 0} → (front : List ℕ → Read (Front T)) → (whole depth : ℕ) → List ℕ → Read T
+treeFrom front whole zero bytes = Err (Ends whole)
+treeFrom front whole (suc depth) bytes = andThen (front bytes) (λ x. grow (treeFrom front whole depth) (x .0) (x .1))
+
+-- 00 is Bool, 01 a pair of the two types that follow
+abbrev pub typeFront : (whole : ℕ) → List ℕ → Read (Front Ty)
+typeFront whole [] = Err (Ends whole)
+typeFront whole (byte ∷ rest) =
+    cond (eqb byte 0) (Ok (done bool, rest))
+    (cond (eqb byte 1) (Ok (fork product, rest))
+    (Err (Unknown (whole - suc (length rest)))))
+
+abbrev pub typeFrom : (whole : ℕ) → List ℕ → Read Ty
+typeFrom whole bytes = treeFrom (typeFront whole) whole (length bytes) bytes
+
+-- a parameter or result type, whose width is judged after its last byte
+abbrev pub narrowFrom : (whole : ℕ) → List ℕ → Read Ty
+narrowFrom whole bytes = andThen (typeFrom whole bytes) (λ x. cond (leb (leaves (x .0)) 16) (Ok x) (Err (TooWide (whole - length bytes))))
+
+-- an if is followed by its arms, a let by its parts
+abbrev pub frontOf : Command → Front Expr
+frontOf (commands.Simple s) = done (plain s)
+frontOf (commands.If a) = fork (branch a)
+frontOf commands.Let = fork bind
+
+abbrev pub exprFront : (whole : ℕ) → List ℕ → Read (Front Expr)
+exprFront whole bytes = andThen (commandFrom whole bytes) (λ x. Ok (frontOf (x .0), x .1))
+
+abbrev pub exprFrom : (whole : ℕ) → List ℕ → Read Expr
+exprFrom whole bytes = treeFrom (exprFront whole) whole (length bytes) bytes
+
+-- parameter type, result type, body
+abbrev pub functionFrom : (whole : ℕ) → List ℕ → Read Function
+functionFrom whole bytes =
+    andThen (narrowFrom whole bytes) (λ σ.
+    andThen (narrowFrom whole (σ .1)) (λ τ.
+    andThen (exprFrom whole (τ .1)) (λ e.
+    Ok (record { parameter = σ .0; result = τ .0; body = e .0 }, e .1))))
+
+unfoldable pub functionsFrom : (whole count : ℕ) → List ℕ → Read (List Function)
+functionsFrom whole zero bytes = Ok ([], bytes)
+functionsFrom whole (suc count) bytes =
+    andThen (functionFrom whole bytes) (λ f.
+    andThen (functionsFrom whole count (f .1)) (λ fs.
+    Ok (f .0 ∷ fs .0, fs .1)))
+
+-- nothing follows the main expression
+abbrev pub closed : (whole : ℕ) → Program → List ℕ → Result Program ReadFault
+closed whole p [] = Ok p
+closed whole p (byte ∷ rest) = Err (Trailing (whole - suc (length rest)))
+
+abbrev pub mainFrom : (whole : ℕ) → List Function → List ℕ → Result Program ReadFault
+mainFrom whole fs bytes = andThen (exprFrom whole bytes) (λ e. closed whole (record { functions = fs; main = e .0 }) (e .1))
+
+-- the number of functions, the functions, the main expression
+abbrev pub programFrom : (whole : ℕ) → List ℕ → Result Program ReadFault
+programFrom whole [] = Err (Ends whole)
+programFrom whole (count ∷ rest) =
+    cond (leb count 16) (andThen (functionsFrom whole count rest) (λ fs. mainFrom whole (fs .0) (fs .1))) (Err (Unknown 0))
+
+-- The tree of a program's bytes, or the first fault; the length is judged before all else.
+abbrev pub treeOf : List ℕ → Result Program ReadFault
+treeOf bytes = cond (leb (length bytes) 4096) (programFrom (length bytes) bytes) (Err TooLong)

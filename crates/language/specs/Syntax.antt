@@ -1,7 +1,7 @@
 -- The trees of programs, and their bytes.
 use mathlib.Core.Path.{_≡_}
 use mathlib.Core.List.{List, [], _∷_, _++_}
-use Prim.Native.Nat.{ℕ, _+_, _≤_}
+use Prim.Native.Nat.{ℕ, suc, _+_, _≤_}
 use lib.ListN.{length}
 use Rattle.language.specs.declared.command.Operand.{Operand}
 use Rattle.language.specs.declared.command.Operand.the-variants.{False, True, Name}
@@ -102,3 +102,11 @@ pub record WithinReading (p : Program) : Type 0 where
   pub count : length (p .functions) ≤ 16
   pub functions-readable : AllReadable (p .functions)
   pub main-proper : Proper (p .main)
+
+-- where a function begins that has these before it, and the main expression after all of them
+abbrev pub placeAfter : List Function → ℕ
+placeAfter before = suc (length (encodeFunctions before))
+
+-- where a body begins, in a function that begins at a place
+abbrev pub bodyPlace : (place : ℕ) → Function → ℕ
+bodyPlace place f = place + (length (encodeTy (f .parameter)) + length (encodeTy (f .result)))

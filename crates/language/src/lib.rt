@@ -1,3 +1,5 @@
 // Programs as bytes: reading, typing and unfolding, and the inspection that goes through all three.
 pub mod command;
 pub mod fault;
+pub mod reading;
+pub mod types;
