@@ -2,6 +2,7 @@
 use mathlib.Core.Path.{_≡_, refl, sym, ap, subst, _∙_}
 use mathlib.Core.Bool.{Bool, true, false, cond}
 use mathlib.Core.List.{List, [], _∷_, _++_, append-nil}
+use mathlib.Core.Logic.{_↔_}
 use Prim.Native.Nat.{ℕ, zero, suc, _+_, _-_, _≤_, _<_}
 use native.Mathlib.Nat.{not-suc-le-zero}
 use native.Mathlib.Omega.{arith}
@@ -10,7 +11,8 @@ use lib.Dec.{leb}
 use lib.ListN.{length, getD, length-append}
 use Rattle.std.specs.declared.result.Result.{Result}
 use Rattle.std.specs.declared.result.Result.the-variants.{Ok, Err}
-use Rattle.std.specs.Results.{ErrBy}
+use Rattle.std.specs.Results.{ErrBy, isOk}
+use Rattle.std.proofs.shelf.Tests.{false≢true}
 use Rattle.std.proofs.shelf.Lists.{take-rest}
 use Rattle.language.specs.declared.fault.ReadFault.{ReadFault}
 use Rattle.language.specs.declared.fault.ReadFault.the-variants.{TooLong, Ends, Unknown, Trailing}
@@ -19,7 +21,7 @@ use Rattle.language.specs.Outcomes.{andThen}
 use Rattle.language.specs.Outlines.{Reads}
 use Rattle.language.specs.Syntax.{Function, Expr, Program, encode, encodeExpr, encodeFunctions, AllReadable, Proper, WithinReading}
 use Rattle.language.specs.Reading.{Read, exprFrom, functionsFrom, closed, mainFrom, programFrom, treeOf}
-use Rattle.language.specs.Grammar.{ReadingExact}
+use Rattle.language.specs.Grammar.{ReadingExact, ByGrammar}
 use Rattle.language.proofs.Commands.{after}
 use Rattle.language.proofs.Results.{clash, ok-same, then-at, then-err, then-ok}
 use Rattle.language.proofs.Encoding.{expr-sound, expr-complete, functions-sound, functions-complete}
@@ -97,7 +99,19 @@ tree-complete p h =
     ∙ program-complete (length (encode p)) p h
 
 pub reading-exact : ReadingExact
-reading-exact = record {
-  accepts = λ bytes p. (tree-sound bytes p, λ k. ap treeOf (k .0) ∙ tree-complete p (k .1));
-  only-one = λ p q hp hq e. ok-same (tree-complete p hp) (ap treeOf e ∙ tree-complete q hq);
+reading-exact bytes p = (tree-sound bytes p, λ k. ap treeOf (k .0) ∙ tree-complete p (k .1))
+
+-- what is accepted by reading, in the grammar's words
+pub by-grammar : {A E : Type 0} (bytes : List ℕ) (r : Result A E) → ((isOk r ≡ true) ↔ ((p : Program) × (treeOf bytes ≡ Ok p))) → ByGrammar bytes r
+by-grammar bytes r h = record {
+  accepted = (λ k. let x = h .0 k in (x .0, tree-sound bytes (x .0) (x .1)), λ x. h .1 (x .0, ap treeOf (x .1 .0) ∙ tree-complete (x .0) (x .1 .1)));
+  only-one = λ p q x y. ok-same (ap treeOf (x .0) ∙ tree-complete p (x .1)) (ap treeOf (y .0) ∙ tree-complete q (y .1));
 }
+
+-- both clauses of reading
+abbrev pub ReadsWell : (bytes : List ℕ) → Result Outline ReadFault → Type 0
+ReadsWell bytes r = record { exact : Reads r (treeOf bytes); grammar : ByGrammar bytes r }
+
+pub reads-well : (bytes : List ℕ) (r : Result Outline ReadFault) → Reads r (treeOf bytes) → ReadsWell bytes r
+reads-well bytes (Ok o) h = record { exact = h; grammar = by-grammar bytes (Ok o) (λ _. (h .0, h .1), λ _. refl) }
+reads-well bytes (Err fault) h = record { exact = h; grammar = by-grammar bytes (Err fault) (λ e. absurd (false≢true e), λ x. absurd (clash h (x .1))) }

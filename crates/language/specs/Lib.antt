@@ -4,3 +4,4 @@ pub mod Syntax
 pub mod Reading
 pub mod Outlines
 pub mod Grammar
+pub mod Typing

@@ -1,5 +1,6 @@
 // Reading: a program's bytes from left to right, to the first fault or to an outline.
 ghost use Prim.Native.Nat.{_+_, _-_, _≤_, _<_};
+ghost use Rattle.language.specs.Grammar.{ByGrammar};
 ghost use Rattle.language.specs.Outcomes.{Follows};
 ghost use Rattle.language.specs.Outlines.{Coded, Outlined, AllOutlined, Reads, Passes};
 ghost use Rattle.language.specs.Reading.{narrowFrom, exprFrom, functionFrom, functionsFrom, treeOf};
@@ -112,7 +113,8 @@ fn read_functions(
 
 // The outline of a program, or the first fault.
 pub fn read(program: &[u8]) -> Result<Outline, ReadFault>
-    ensures { λ r. ⌜ Reads r (treeOf (now (program .entry))) ⌝ }
+    ensures exact { λ r. ⌜ Reads r (treeOf (now (program .entry))) ⌝ }
+    ensures grammar { λ r. ⌜ ByGrammar (now (program .entry)) r ⌝ }
 {
     if program.len() > MOST_BYTES {
         return Err(ReadFault::TooLong);
