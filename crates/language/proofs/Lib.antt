@@ -6,3 +6,4 @@ pub mod Encoding
 pub mod ReadingExprs
 pub mod ReadingFunctions
 pub mod ReadingPrograms
+pub mod Derivations
