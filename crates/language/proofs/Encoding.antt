@@ -6,7 +6,8 @@ use Prim.Native.Nat.{ℕ, zero, suc, _+_, _-_, _≤_, _<_}
 use native.Mathlib.Omega.{arith}
 use borrow.Author.Tests.{eqb-true, eqb-false, ne-eqb, leb-true, le-leb}
 use lib.Dec.{eqb, leb}
-use lib.ListN.{length, length-append}
+use lib.ListN.{length, getD, length-append}
+use Rattle.std.proofs.shelf.Lists.{take-rest}
 use Rattle.std.specs.declared.result.Result.{Result}
 use Rattle.std.specs.declared.result.Result.the-variants.{Ok, Err}
 use Rattle.language.specs.declared.fault.ReadFault.{ReadFault}
@@ -20,6 +21,7 @@ use Rattle.language.specs.declared.command.Command.the-variants as commands
 use Rattle.language.specs.Outcomes.{andThen}
 use Rattle.language.specs.Syntax.{Ty, bool, product, leaves, encodeTy, operandByte, encodeSimple, Expr, plain, branch, bind, encodeExpr, Function, encodeFunction, encodeFunctions, ProperOperand, ProperSimple, Proper, Readable, AllReadable}
 use Rattle.language.specs.Reading.{Read, operandOf, withOne, withTwo, commandOf, commandFrom, Front, done, fork, grow, treeFrom, typeFront, typeFrom, narrowFrom, frontOf, exprFront, exprFrom, functionFrom, functionsFrom}
+use Rattle.language.proofs.Commands.{after}
 use Rattle.language.proofs.Results.{clash, ok-same, then-ok, then-at}
 use Rattle.language.proofs.Trees.{Shortens, tree-grows, tree-short, fork-both}
 use Rattle.language.proofs.ReadingTypes.{type-grows, type-front-short}
@@ -275,3 +277,8 @@ functions-complete w (f ∷ fs) rest h =
     ap (λ (x : List ℕ). functionsFrom w (suc (length fs)) x) (append-assoc (encodeFunction f) (encodeFunctions fs) rest)
     ∙ then-at (λ x. andThen (functionsFrom w (length fs) (x .1)) (λ gs. Ok (x .0 ∷ gs .0, gs .1))) (function-complete w f (encodeFunctions fs ++ rest) (h .0))
     ∙ then-at (λ gs. Ok (f ∷ gs .0, gs .1)) (functions-complete w fs rest (h .1))
+
+-- a type that begins with 1 is a pair
+pub parts-cut : (s : List ℕ) (τ : Ty) → s ≡ encodeTy τ → getD s 0 0 ≡ 1 → (σ : Ty) × (υ : Ty) × (τ ≡ product σ υ) × (after 1 s ≡ encodeTy σ ++ encodeTy υ)
+parts-cut s bool e h = absurd (let k : getD s 0 0 ≡ 0 = ap (λ (x : List ℕ). getD x 0 0) e in omega arith)
+parts-cut s (product σ υ) e h = (σ, υ, refl, ap (after 1) e ∙ take-rest (1 ∷ (encodeTy σ ++ encodeTy υ)) 1)

@@ -1,16 +1,18 @@
 -- What the code keeps of a program's types and functions.
 use mathlib.Core.Path.{_≡_}
 use mathlib.Core.List.{List, [], _∷_, _++_}
-use Prim.Native.Nat.{ℕ}
+use Prim.Native.Nat.{ℕ, _+_, _≤_, _<_}
 use lib.ListN.{length, getD, take}
 use denote.Ref.{RefT}
+use Rattle.std.specs.declared.option.Option.{Option}
+use Rattle.std.specs.declared.option.Option.the-variants.{Some, None}
 use Rattle.std.specs.declared.result.Result.{Result}
 use Rattle.std.specs.declared.result.Result.the-variants.{Ok, Err}
 use Rattle.language.specs.declared.fault.ReadFault.{ReadFault}
 use Rattle.language.specs.declared.types.TypeCode.{TypeCode}
 use Rattle.language.specs.declared.reading.FunctionOutline.{FunctionOutline}
 use Rattle.language.specs.declared.reading.Outline.{Outline}
-use Rattle.language.specs.Syntax.{Ty, leaves, encodeTy, Function, Program, placeAfter, bodyPlace}
+use Rattle.language.specs.Syntax.{Ty, bool, product, leaves, encodeTy, Function, Program, placeAfter, bodyPlace}
 
 -- the bytes of a type that the code holds
 abbrev pub typeBytes : TypeCode → List ℕ
@@ -23,6 +25,18 @@ Coded t τ = typeBytes t ≡ encodeTy τ
 -- the number is that of the type's leaves
 abbrev pub Counted : ℕ → Ty → Type 0
 Counted n τ = n ≡ leaves τ
+
+-- the pair of two types, where it has at most 16 leaves
+abbrev pub PairCoded : Option TypeCode → Ty → Ty → Type 0
+PairCoded (Some t) σ τ = Coded t (product σ τ) × (leaves σ + leaves τ ≤ 16)
+PairCoded None σ τ = 16 < leaves σ + leaves τ
+
+-- the parts of a type, where it is a pair
+abbrev pub PartsCoded : Option (TypeCode × TypeCode) → Ty → Type 0
+PartsCoded (Some t) bool = ⊥
+PartsCoded (Some t) (product σ τ) = Coded (t .0) σ × Coded (t .1) τ
+PartsCoded None bool = Unit {0}
+PartsCoded None (product σ τ) = ⊥
 
 -- what the code keeps of a function that begins at a place: its types, and where its body begins
 pub record Outlined (place : ℕ) (o : FunctionOutline) (f : Function) : Type 0 where

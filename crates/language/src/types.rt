@@ -1,10 +1,13 @@
 // Types as the code holds them.
 ghost use Prim.Native.Nat.{_+_, _-_, _≤_, _<_};
 ghost use Rattle.language.specs.Outcomes.{Follows};
-ghost use Rattle.language.specs.Outlines.{Coded, Counted, typeBytes};
+ghost use Rattle.language.specs.Outlines.{Coded, Counted, PairCoded, PartsCoded, typeBytes};
 ghost use Rattle.language.specs.Reading.{typeFrom};
+ghost use Rattle.language.specs.Syntax.{Ty};
+ghost use Rattle.std.specs.Orderings.{Decides};
 ghost use Rattle.std.specs.Vec.{made};
-ghost use lib.ListN.{length};
+ghost use lib.ListN.{length, take, drop};
+ghost use mathlib.Core.List.{_++_};
 ghost use mathlib.Core.Path.{_≡_};
 use crate::fault::ReadFault;
 
@@ -38,6 +41,69 @@ impl TypeCode {
             bytes: code,
         }
     }
+
+    // Its bytes.
+    pub fn as_slice(&self) -> &[u8]
+        ensures bytes { λ r. ⌜ now r ≡ typeBytes (now (self .entry)) ⌝ }
+        ensures short { λ r. ⌜ length (now r) ≤ 31 ⌝ }
+    {
+        let end = self.len.min(31);
+        &self.bytes[0..end]
+    }
+
+    // Whether it is the same type as `other`.
+    pub fn is(&self, other: &TypeCode) -> bool
+        ensures { λ r. ⌜ Decides r (typeBytes (now (self .entry)) ≡ typeBytes (now (other .entry))) ⌝ }
+    {
+        self.as_slice() == other.as_slice()
+    }
+
+    // The number of its leaves: a type has one byte for each leaf, and one for each pair.
+    pub fn leaves(&self) -> usize
+        ensures { λ r. ⌜ ((τ : Ty) → Coded (now (self .entry)) τ → Counted r τ) ⌝ }
+    {
+        (self.as_slice().len() + 1) / 2
+    }
+
+    // The pair of two types, unless it has too many leaves.
+    pub fn pair(first: &TypeCode, second: &TypeCode) -> Option<TypeCode>
+        ensures { λ r. ⌜ ((σ τ : Ty) → Coded (now (first .entry)) σ → Coded (now (second .entry)) τ → PairCoded r σ τ) ⌝ }
+    {
+        let (first, second) = (first.as_slice(), second.as_slice());
+        let middle = 1 + first.len();
+        let end = middle + second.len();
+        if end > 31 {
+            return None;
+        }
+        let mut bytes = [0; 31];
+        bytes[0] = 1;
+        put(&mut bytes, 1, first);
+        put(&mut bytes, middle, second);
+        Some(TypeCode { len: end, bytes })
+    }
+
+    // The two parts of a pair.
+    pub fn parts(&self) -> Option<(TypeCode, TypeCode)>
+        ensures { λ r. ⌜ ((τ : Ty) → Coded (now (self .entry)) τ → PartsCoded r τ) ⌝ }
+    {
+        let [1, parts @ ..] = self.as_slice() else {
+            return None;
+        };
+        let Ok((_, second)) = read_leaves(parts, parts.len()) else {
+            return None;
+        };
+        let end = parts.len() - second.len();
+        Some((TypeCode::of(&parts[0..end]), TypeCode::of(second)))
+    }
+}
+
+// Writes `part` into `bytes`, from an index on.
+fn put(bytes: &mut [u8], from: usize, part: &[u8])
+    requires { ⌜ from + length (now part) ≤ length (now bytes) ⌝ }
+    ensures { λ _. ⌜ now (bytes .exit) ≡ take from (now (bytes .entry)) ++ (now (part .entry) ++ drop (from + length (now (part .entry))) (now (bytes .entry))) ⌝ }
+{
+    let end = from + part.len();
+    bytes[from..end].copy_from_slice(part);
 }
 
 // The number of leaves of the type at the front of `bytes`, the last ones of a program of `whole` bytes, and the bytes after it.
