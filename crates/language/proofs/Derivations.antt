@@ -19,7 +19,7 @@ use Rattle.language.specs.declared.command.Simple.{Simple}
 use Rattle.language.specs.declared.command.Simple.the-variants.{Atom, Pair, First, Second, Flip, Observe, Call}
 use Rattle.language.specs.Outcomes.{andThen}
 use Rattle.language.specs.Syntax.{Ty, bool, product, leaves, Expr, plain, branch, bind, encodeExpr, Function, Program, placeAfter, bodyPlace}
-use Rattle.language.specs.Typing.{At, here, later, Has, has-false, has-true, has-name, Typed, is-atom, is-pair, is-first, is-second, is-flip, is-observe, is-call, is-if, is-let, Small, Bodies, no-more, body, WellTyped, Checked, sameType, at, orFault, need, operandType, firstPart, secondPart, checkSimple, check, checkBody, checkBodies, checkProgram}
+use Rattle.language.specs.Typing.{At, here, later, Has, has-false, has-true, has-name, Typed, is-atom, is-pair, is-first, is-second, is-flip, is-observe, is-call, is-if, is-let, Small, Bodies, no-more, body, WellTyped, Checked, sameType, at, orFault, need, operandType, boolOperand, callType, partsOf, pairOperand, checkSimple, check, checkBody, checkBodies, checkProgram}
 use Rattle.language.proofs.Results.{clash, ok-same, then-ok, then-at}
 
 -- Equal types.
@@ -66,13 +66,9 @@ fault-ok fault (some y) h = ap some (ok-same refl h)
 fault-some : {A : Type 0} (fault : TypeFault) {o : Option A} {x : A} → o ≡ some x → orFault fault o ≡ Ok x
 fault-some fault e = ap (orFault fault) e
 
-first-from : (τ σ : Ty) → firstPart τ ≡ some σ → (υ : Ty) × (τ ≡ product σ υ)
-first-from bool σ h = absurd (let z : _≡_ {A = ℕ} 0 1 = cc in omega arith)
-first-from (product ρ υ) σ h = let e : ρ ≡ σ = cc in (υ, ap (λ (x : Ty). product x υ) e)
-
-second-from : (τ σ : Ty) → secondPart τ ≡ some σ → (υ : Ty) × (τ ≡ product υ σ)
-second-from bool σ h = absurd (let z : _≡_ {A = ℕ} 0 1 = cc in omega arith)
-second-from (product ρ υ) σ h = let e : υ ≡ σ = cc in (ρ, ap (λ (x : Ty). product ρ x) e)
+parts-from : (τ σ υ : Ty) → partsOf τ ≡ some (σ, υ) → τ ≡ product σ υ
+parts-from bool σ υ h = absurd (let z : _≡_ {A = ℕ} 0 1 = cc in omega arith)
+parts-from (product ρ π) σ υ h = let e : (ρ, π) ≡ (σ, υ) = cc in ap (λ (x : Ty × Ty). product (x .0) (x .1)) e
 
 module _ (Φ : List Function) where
   abbrev pub Derives : List Ty → Expr → Ty → Type 0
@@ -88,6 +84,23 @@ module _ (Φ : List Function) where
   operand-complete has-true p = refl
   operand-complete (has-name d) p = fault-some (OutOfScope p) (at-is d)
 
+  bool-sound : (Γ : List Ty) (p : ℕ) (a : Operand) → boolOperand Γ p a ≡ Ok tt → Has Γ a bool
+  bool-sound Γ p a h =
+      let x = then-ok (operandType Γ p a) (λ ρ. need (sameType ρ bool) (Mistyped p) (Ok tt)) h in
+      let y = need-ok (sameType (x .0) bool) (Mistyped p) (Ok tt) (x .2) in
+      subst (Has Γ a) (same-eq (x .0) bool (y .0)) (operand-sound Γ p a (x .0) (x .1))
+
+  bool-complete : {Γ : List Ty} {a : Operand} → Has Γ a bool → (p : ℕ) → boolOperand Γ p a ≡ Ok tt
+  bool-complete a p = then-at (λ τ. need (sameType τ bool) (Mistyped p) (Ok tt)) (operand-complete a p)
+
+  pair-sound : (Γ : List Ty) (p : ℕ) (a : Operand) (parts : Ty × Ty) → pairOperand Γ p a ≡ Ok parts → Has Γ a (product (parts .0) (parts .1))
+  pair-sound Γ p a parts h =
+      let x = then-ok (operandType Γ p a) (λ τ. orFault (Mistyped p) (partsOf τ)) h in
+      subst (Has Γ a) (parts-from (x .0) (parts .0) (parts .1) (fault-ok (Mistyped p) (partsOf (x .0)) (x .2))) (operand-sound Γ p a (x .0) (x .1))
+
+  pair-complete : {Γ : List Ty} {a : Operand} {σ τ : Ty} → Has Γ a (product σ τ) → (p : ℕ) → pairOperand Γ p a ≡ Ok (σ, τ)
+  pair-complete a p = then-at (λ τ. orFault (Mistyped p) (partsOf τ)) (operand-complete a p)
+
   simple-sound : (Γ : List Ty) (p : ℕ) (s : Simple) (τ : Ty) → checkSimple Φ Γ p s ≡ Ok τ → Derives Γ (plain s) τ
   simple-sound Γ p (Atom a) τ h = (is-atom (operand-sound Γ p a τ h), tt)
   simple-sound Γ p (Pair a b) τ h =
@@ -96,20 +109,17 @@ module _ (Φ : List Function) where
       let z = need-ok (leb (leaves (x .0) + leaves (y .0)) 16) (OverLimit p) (Ok (product (x .0) (y .0))) (y .2) in
       subst (Derives Γ (plain (Pair a b))) (ok-same refl (z .1)) (is-pair (operand-sound Γ p a (x .0) (x .1)) (operand-sound Γ p b (y .0) (y .1)), leb-true (leaves (x .0) + leaves (y .0)) 16 (z .0))
   simple-sound Γ p (First a) τ h =
-      let x = then-ok (operandType Γ p a) (λ ρ. orFault (Mistyped p) (firstPart ρ)) h in
-      let y = first-from (x .0) τ (fault-ok (Mistyped p) (firstPart (x .0)) (x .2)) in
-      (is-first (subst (Has Γ a) (y .1) (operand-sound Γ p a (x .0) (x .1))), tt)
+      let x = then-ok (pairOperand Γ p a) (λ parts. Ok (parts .0)) h in
+      subst (Derives Γ (plain (First a))) (ok-same refl (x .2)) (is-first (pair-sound Γ p a (x .0) (x .1)), tt)
   simple-sound Γ p (Second a) τ h =
-      let x = then-ok (operandType Γ p a) (λ ρ. orFault (Mistyped p) (secondPart ρ)) h in
-      let y = second-from (x .0) τ (fault-ok (Mistyped p) (secondPart (x .0)) (x .2)) in
-      (is-second (subst (Has Γ a) (y .1) (operand-sound Γ p a (x .0) (x .1))), tt)
+      let x = then-ok (pairOperand Γ p a) (λ parts. Ok (parts .1)) h in
+      subst (Derives Γ (plain (Second a))) (ok-same refl (x .2)) (is-second (pair-sound Γ p a (x .0) (x .1)), tt)
   simple-sound Γ p (Flip row) τ h = subst (Derives Γ (plain (Flip row))) (ok-same refl h) (is-flip, tt)
   simple-sound Γ p (Observe a) τ h =
-      let x = then-ok (operandType Γ p a) (λ ρ. need (sameType ρ bool) (Mistyped p) (Ok bool)) h in
-      let y = need-ok (sameType (x .0) bool) (Mistyped p) (Ok bool) (x .2) in
-      subst (Derives Γ (plain (Observe a))) (ok-same refl (y .1)) (is-observe (subst (Has Γ a) (same-eq (x .0) bool (y .0)) (operand-sound Γ p a (x .0) (x .1))), tt)
+      let x = then-ok (boolOperand Γ p a) (λ _. Ok bool) h in
+      subst (Derives Γ (plain (Observe a))) (ok-same refl (x .2)) (is-observe (bool-sound Γ p a (x .1)), tt)
   simple-sound Γ p (Call k a) τ h =
-      let x = then-ok (operandType Γ p a) (λ ρ. andThen (orFault (NoFunction p) (at Φ k)) (λ f. need (sameType ρ (f .parameter)) (Mistyped p) (Ok (f .result)))) h in
+      let x = then-ok (operandType Γ p a) (callType Φ p k) h in
       let y = then-ok (orFault (NoFunction p) (at Φ k)) (λ f. need (sameType (x .0) (f .parameter)) (Mistyped p) (Ok (f .result))) (x .2) in
       let z = need-ok (sameType (x .0) (y .0 .parameter)) (Mistyped p) (Ok (y .0 .result)) (y .2) in
       subst (Derives Γ (plain (Call k a))) (ok-same refl (z .1))
@@ -119,15 +129,14 @@ module _ (Φ : List Function) where
   unfolding check
   check-sound Γ p (plain s) τ h = simple-sound Γ p s τ h
   check-sound Γ p (branch a t u) τ h =
-      let x = then-ok (operandType Γ p a) (λ ρ. need (sameType ρ bool) (Mistyped p) (andThen (check Φ Γ (p + 2) t) (λ σ. andThen (check Φ Γ (p + 2 + length (encodeExpr t)) u) (λ υ. need (sameType σ υ) (Mistyped p) (Ok υ))))) h in
-      let g = need-ok (sameType (x .0) bool) (Mistyped p) (andThen (check Φ Γ (p + 2) t) (λ σ. andThen (check Φ Γ (p + 2 + length (encodeExpr t)) u) (λ υ. need (sameType σ υ) (Mistyped p) (Ok υ)))) (x .2) in
-      let y = then-ok (check Φ Γ (p + 2) t) (λ σ. andThen (check Φ Γ (p + 2 + length (encodeExpr t)) u) (λ υ. need (sameType σ υ) (Mistyped p) (Ok υ))) (g .1) in
+      let x = then-ok (boolOperand Γ p a) (λ _. andThen (check Φ Γ (p + 2) t) (λ σ. andThen (check Φ Γ (p + 2 + length (encodeExpr t)) u) (λ υ. need (sameType σ υ) (Mistyped p) (Ok υ)))) h in
+      let y = then-ok (check Φ Γ (p + 2) t) (λ σ. andThen (check Φ Γ (p + 2 + length (encodeExpr t)) u) (λ υ. need (sameType σ υ) (Mistyped p) (Ok υ))) (x .2) in
       let z = then-ok (check Φ Γ (p + 2 + length (encodeExpr t)) u) (λ υ. need (sameType (y .0) υ) (Mistyped p) (Ok υ)) (y .2) in
       let s = need-ok (sameType (y .0) (z .0)) (Mistyped p) (Ok (z .0)) (z .2) in
       let e : y .0 ≡ τ = same-eq (y .0) (z .0) (s .0) ∙ ok-same refl (s .1) in
       let first = subst (Derives Γ t) e (check-sound Γ (p + 2) t (y .0) (y .1)) in
       let second = subst (Derives Γ u) (ok-same refl (s .1)) (check-sound Γ (p + 2 + length (encodeExpr t)) u (z .0) (z .1)) in
-      (is-if (subst (Has Γ a) (same-eq (x .0) bool (g .0)) (operand-sound Γ p a (x .0) (x .1))) (first .0) (second .0), (first .1, second .1))
+      (is-if (bool-sound Γ p a (x .1)) (first .0) (second .0), (first .1, second .1))
   check-sound Γ p (bind t u) τ h =
       let x = then-ok (check Φ Γ (p + 1) t) (λ σ. need (ltb (length Γ) 32) (OverLimit p) (check Φ (Γ ++ (σ ∷ [])) (p + 1 + length (encodeExpr t)) u)) h in
       let g = need-ok (ltb (length Γ) 32) (OverLimit p) (check Φ (Γ ++ (x .0 ∷ [])) (p + 1 + length (encodeExpr t)) u) (x .2) in
@@ -140,16 +149,16 @@ module _ (Φ : List Function) where
   check-complete (is-atom a) s p = operand-complete a p
   check-complete (is-pair {σ = σ} {τ = τ} a b) s p =
       then-at _ (operand-complete a p) ∙ then-at _ (operand-complete b p) ∙ need-true (OverLimit p) (Ok (product σ τ)) (le-leb (leaves σ + leaves τ) 16 s)
-  check-complete (is-first a) s p = then-at (λ τ. orFault (Mistyped p) (firstPart τ)) (operand-complete a p)
-  check-complete (is-second a) s p = then-at (λ τ. orFault (Mistyped p) (secondPart τ)) (operand-complete a p)
+  check-complete (is-first a) s p = then-at (λ parts. Ok (parts .0)) (pair-complete a p)
+  check-complete (is-second a) s p = then-at (λ parts. Ok (parts .1)) (pair-complete a p)
   check-complete is-flip s p = refl
-  check-complete (is-observe a) s p = then-at (λ τ. need (sameType τ bool) (Mistyped p) (Ok bool)) (operand-complete a p)
+  check-complete (is-observe a) s p = then-at (λ _. Ok bool) (bool-complete a p)
   check-complete (is-call {f = f} d a) s p =
-      then-at _ (operand-complete a p)
+      then-at (callType Φ p _) (operand-complete a p)
       ∙ then-at (λ g. need (sameType (f .parameter) (g .parameter)) (Mistyped p) (Ok (g .result))) (fault-some (NoFunction p) (at-is d))
       ∙ need-true (Mistyped p) (Ok (f .result)) (same-refl (f .parameter))
   check-complete {Γ = Γ} (is-if {t = t} {u = u} {τ = τ} a d d′) s p =
-      then-at (λ ρ. need (sameType ρ bool) (Mistyped p) (andThen (check Φ Γ (p + 2) t) (λ σ. andThen (check Φ Γ (p + 2 + length (encodeExpr t)) u) (λ υ. need (sameType σ υ) (Mistyped p) (Ok υ))))) (operand-complete a p)
+      then-at (λ _. andThen (check Φ Γ (p + 2) t) (λ σ. andThen (check Φ Γ (p + 2 + length (encodeExpr t)) u) (λ υ. need (sameType σ υ) (Mistyped p) (Ok υ)))) (bool-complete a p)
       ∙ then-at (λ σ. andThen (check Φ Γ (p + 2 + length (encodeExpr t)) u) (λ υ. need (sameType σ υ) (Mistyped p) (Ok υ))) (check-complete d (s .0) (p + 2))
       ∙ then-at (λ υ. need (sameType τ υ) (Mistyped p) (Ok υ)) (check-complete d′ (s .1) (p + 2 + length (encodeExpr t)))
       ∙ need-true (Mistyped p) (Ok τ) (same-refl τ)

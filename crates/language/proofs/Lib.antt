@@ -7,3 +7,7 @@ pub mod ReadingExprs
 pub mod ReadingFunctions
 pub mod ReadingPrograms
 pub mod Derivations
+pub mod CheckSteps
+pub mod Copies
+pub mod Heads
+pub mod CheckExprs

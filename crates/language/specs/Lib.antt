@@ -5,3 +5,4 @@ pub mod Reading
 pub mod Outlines
 pub mod Grammar
 pub mod Typing
+pub mod Unfolding

@@ -2,7 +2,7 @@
 use mathlib.Core.Path.{_≡_}
 use mathlib.Core.List.{List, [], _∷_, _++_}
 use Prim.Native.Nat.{ℕ, _+_, _≤_, _<_}
-use lib.ListN.{length, getD, take}
+use lib.ListN.{length, getD, take, replicate}
 use denote.Ref.{RefT}
 use Rattle.std.specs.declared.option.Option.{Option}
 use Rattle.std.specs.declared.option.Option.the-variants.{Some, None}
@@ -21,6 +21,10 @@ typeBytes t = take (t .len) (t .bytes)
 -- the code holds this type
 abbrev pub Coded : TypeCode → Ty → Type 0
 Coded t τ = typeBytes t ≡ encodeTy τ
+
+-- Bool
+abbrev pub boolCode : TypeCode
+boolCode = record { len = 1; bytes = replicate 31 0 }
 
 -- the number is that of the type's leaves
 abbrev pub Counted : ℕ → Ty → Type 0
@@ -57,6 +61,10 @@ AllOutlined os fs =
     (before : List Function) (f : Function) (following : List Function) → fs ≡ before ++ (f ∷ following) →
     Outlined (placeAfter before) (getD os (length before) noFunction) f
 
+-- just the functions that may be called
+abbrev pub Callable : List FunctionOutline → List Function → Type 0
+Callable os Φ = AllOutlined os Φ × (length Φ ≡ length os)
+
 -- and of a program
 pub record Outlines (o : Outline) (p : Program) : Type 0 where
   pub count-is : o .count ≡ length (p .functions)
@@ -72,3 +80,25 @@ Reads (Err fault) out = out ≡ Err fault
 abbrev pub Passes : {A : Type 0} → Result (RefT (List ℕ)) ReadFault → Result (A × List ℕ) ReadFault → Type 0
 Passes {A = A} (Ok rest) out = (x : A) × (out ≡ Ok (x, rest .now))
 Passes (Err fault) out = out ≡ Err fault
+
+-- the code holds these types, one at each number
+abbrev pub AllCoded : List TypeCode → List Ty → Type 0
+AllCoded [] [] = Unit {0}
+AllCoded [] (τ ∷ Γ) = ⊥
+AllCoded (t ∷ ts) [] = ⊥
+AllCoded (t ∷ ts) (τ ∷ Γ) = Coded t τ × AllCoded ts Γ
+
+-- code answers with the type that the definition gives, or with its fault
+abbrev pub Types : {E : Type 0} → Result TypeCode E → Result Ty E → Type 0
+Types (Ok t) out = (τ : Ty) × Coded t τ × (out ≡ Ok τ)
+Types (Err fault) out = out ≡ Err fault
+
+-- or with both parts of a pair
+abbrev pub PartsTyped : {E : Type 0} → Result (TypeCode × TypeCode) E → Result (Ty × Ty) E → Type 0
+PartsTyped (Ok t) out = (σ : Ty) × (τ : Ty) × Coded (t .0) σ × Coded (t .1) τ × (out ≡ Ok (σ, τ))
+PartsTyped (Err fault) out = out ≡ Err fault
+
+-- and besides with the bytes that follow
+abbrev pub TypesPast : {E : Type 0} → (rest : List ℕ) → Result (TypeCode × RefT (List ℕ)) E → Result Ty E → Type 0
+TypesPast rest (Ok x) out = (τ : Ty) × Coded (x .0) τ × (out ≡ Ok τ) × (x .1 .now ≡ rest)
+TypesPast rest (Err fault) out = out ≡ Err fault

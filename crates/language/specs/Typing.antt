@@ -96,13 +96,22 @@ operandType Γ place False = Ok bool
 operandType Γ place True = Ok bool
 operandType Γ place (Name k) = orFault (OutOfScope place) (at Γ k)
 
-abbrev pub firstPart : Ty → Option Ty
-firstPart bool = none
-firstPart (product σ τ) = some σ
+-- the parts of a pair
+abbrev pub partsOf : Ty → Option (Ty × Ty)
+partsOf bool = none
+partsOf (product σ τ) = some (σ, τ)
 
-abbrev pub secondPart : Ty → Option Ty
-secondPart bool = none
-secondPart (product σ τ) = some τ
+-- an operand that has to be Bool
+abbrev pub boolOperand : List Ty → (place : ℕ) → Operand → Checked (Unit {0})
+boolOperand Γ place a = andThen (operandType Γ place a) (λ τ. need (sameType τ bool) (Mistyped place) (Ok tt))
+
+-- an operand that has to be a pair: the types of its parts
+abbrev pub pairOperand : List Ty → (place : ℕ) → Operand → Checked (Ty × Ty)
+pairOperand Γ place a = andThen (operandType Γ place a) (λ τ. orFault (Mistyped place) (partsOf τ))
+
+-- a call of function k with an operand of a type: the function, then the type of its parameter
+abbrev pub callType : List Function → (place k : ℕ) → Ty → Checked Ty
+callType Φ place k τ = andThen (orFault (NoFunction place) (at Φ k)) (λ f. need (sameType τ (f .parameter)) (Mistyped place) (Ok (f .result)))
 
 -- operands in byte order, then at a call the function, then the command's own rule
 abbrev pub checkSimple : List Function → List Ty → (place : ℕ) → Simple → Checked Ty
@@ -111,25 +120,21 @@ checkSimple Φ Γ place (Pair a b) =
     andThen (operandType Γ place a) (λ σ.
     andThen (operandType Γ place b) (λ τ.
     need (leb (leaves σ + leaves τ) 16) (OverLimit place) (Ok (product σ τ))))
-checkSimple Φ Γ place (First a) = andThen (operandType Γ place a) (λ τ. orFault (Mistyped place) (firstPart τ))
-checkSimple Φ Γ place (Second a) = andThen (operandType Γ place a) (λ τ. orFault (Mistyped place) (secondPart τ))
+checkSimple Φ Γ place (First a) = andThen (pairOperand Γ place a) (λ parts. Ok (parts .0))
+checkSimple Φ Γ place (Second a) = andThen (pairOperand Γ place a) (λ parts. Ok (parts .1))
 checkSimple Φ Γ place (Flip row) = Ok bool
-checkSimple Φ Γ place (Observe a) = andThen (operandType Γ place a) (λ τ. need (sameType τ bool) (Mistyped place) (Ok bool))
-checkSimple Φ Γ place (Call k a) =
-    andThen (operandType Γ place a) (λ τ.
-    andThen (orFault (NoFunction place) (at Φ k)) (λ f.
-    need (sameType τ (f .parameter)) (Mistyped place) (Ok (f .result))))
+checkSimple Φ Γ place (Observe a) = andThen (boolOperand Γ place a) (λ _. Ok bool)
+checkSimple Φ Γ place (Call k a) = andThen (operandType Γ place a) (callType Φ place k)
 
 -- The type of the expression that begins at a place, or the first fault.
 -- An if: its guard, its arms, their agreement. A let: its first part, the number of names, its second part.
 unfoldable pub check : List Function → List Ty → (place : ℕ) → Expr → Checked Ty
 check Φ Γ place (plain s) = checkSimple Φ Γ place s
 check Φ Γ place (branch a t u) =
-    andThen (operandType Γ place a) (λ ρ.
-    need (sameType ρ bool) (Mistyped place)
-    (andThen (check Φ Γ (place + 2) t) (λ σ.
+    andThen (boolOperand Γ place a) (λ _.
+    andThen (check Φ Γ (place + 2) t) (λ σ.
     andThen (check Φ Γ (place + 2 + length (encodeExpr t)) u) (λ τ.
-    need (sameType σ τ) (Mistyped place) (Ok τ)))))
+    need (sameType σ τ) (Mistyped place) (Ok τ))))
 check Φ Γ place (bind t u) =
     andThen (check Φ Γ (place + 1) t) (λ σ.
     need (ltb (length Γ) 32) (OverLimit place)

@@ -3,3 +3,4 @@ pub mod command;
 pub mod fault;
 pub mod reading;
 pub mod types;
+pub mod typing;

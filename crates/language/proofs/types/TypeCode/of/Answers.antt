@@ -1,21 +1,15 @@
 use mathlib.Core.Path.{_≡_, sym, ap, _∙_}
-use mathlib.Core.List.{List, [], _∷_, _++_}
-use Prim.Native.Nat.{ℕ, _<_}
+use Prim.Native.Nat.{ℕ}
 use native.Mathlib.Omega.{arith}
-use borrow.Author.Needs.{needs}
-use lib.ListN.{length, getD, take, length-set}
-use Rattle.std.proofs.shelf.Lists.{take-more, take-more-set, take-all}
+use lib.ListN.{length, take, length-set}
+use Rattle.std.proofs.shelf.Lists.{take-all}
+use Rattle.language.proofs.Copies.{copied-more}
 use Rattle.language.proofs.types.TypeCode.of.Needs as need
 
 pub loop-i-again : need.loop-i-again
 loop-i-again c =
-    let s = c .args .bytes .now in
-    let i = c .loop-i .i in
-    let h : i < length (c .loop-i .code) = omega arith in
     (
-      take-more-set (c .loop-i .code) i (getD s i 0) h
-      ∙ ap (λ (r : List ℕ). r ++ getD s i 0 ∷ []) (c .loop-i .inv .0)
-      ∙ sym (take-more s i 0 (c .loop-i-test .taken)),
+      copied-more (c .loop-i .code) (c .args .bytes .now) (c .loop-i .i) 0 (omega arith) (c .loop-i-test .taken) (c .loop-i .inv .0),
       simp length-set (c .loop-i .inv .1),
     )
 

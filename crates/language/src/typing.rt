@@ -1,0 +1,166 @@
+// Typing: the type of each expression, to the first fault.
+ghost use Prim.Native.Nat.{ℕ, _+_, _-_, _≤_, _<_};
+ghost use Rattle.language.specs.Outlines.{Coded, AllCoded, Callable, Types, TypesPast, PartsTyped};
+ghost use Rattle.language.specs.Syntax.{Ty, Expr, Function, Program, Proper, encodeExpr};
+ghost use Rattle.language.specs.Typing.{operandType, boolOperand, pairOperand, callType, checkSimple, check};
+ghost use Rattle.std.specs.Vec.{made};
+ghost use lib.ListN.{length, take, drop};
+ghost use mathlib.Core.List.{List, [], _∷_, _++_};
+ghost use mathlib.Core.Path.{_≡_};
+use crate::command::Command;
+use crate::command::Operand;
+use crate::command::Simple;
+use crate::command::next_command;
+use crate::fault::TypeFault;
+use crate::fault::TypeFaultFromRead;
+use crate::reading::FunctionOutline;
+use crate::types::TypeCode;
+
+// The most names in scope.
+pub const MOST_NAMES: usize = 32;
+
+// The type of an operand of the command at a place.
+fn operand_type(scope: &[TypeCode], operand: Operand, place: usize) -> Result<TypeCode, TypeFault>
+    ensures { λ r. ⌜ ((Γ : List Ty) → AllCoded (now (scope .entry)) Γ → Types r (operandType Γ place operand)) ⌝ }
+{
+    match operand {
+        Operand::False | Operand::True => Ok(TypeCode::BOOL),
+        Operand::Name(name) => {
+            let name = name as usize;
+            if name >= scope.len() {
+                return Err(TypeFault::OutOfScope(place));
+            }
+            Ok(scope[name])
+        }
+    }
+}
+
+// An operand that has to be Bool.
+fn check_bool(scope: &[TypeCode], operand: Operand, place: usize) -> Result<(), TypeFault>
+    ensures { λ r. ⌜ ((Γ : List Ty) → AllCoded (now (scope .entry)) Γ → r ≡ boolOperand Γ place operand) ⌝ }
+{
+    let found = operand_type(scope, operand, place)?;
+    if !found.is(&TypeCode::BOOL) {
+        return Err(TypeFault::Mistyped(place));
+    }
+    Ok(())
+}
+
+// The types of the two parts of an operand that has to be a pair.
+fn operand_parts(
+    scope: &[TypeCode],
+    operand: Operand,
+    place: usize,
+) -> Result<(TypeCode, TypeCode), TypeFault>
+    ensures { λ r. ⌜ ((Γ : List Ty) → AllCoded (now (scope .entry)) Γ → PartsTyped r (pairOperand Γ place operand)) ⌝ }
+{
+    let found = operand_type(scope, operand, place)?;
+    found.parts().ok_or(TypeFault::Mistyped(place))
+}
+
+// The result type of a call of one of the functions that may be called.
+fn check_call(
+    functions: &[FunctionOutline],
+    number: u8,
+    operand: TypeCode,
+    place: usize,
+) -> Result<TypeCode, TypeFault>
+    ensures { λ r. ⌜ ((Φ : List Function) (τ : Ty) → Callable (now (functions .entry)) Φ → Coded operand τ → Types r (callType Φ place number τ)) ⌝ }
+{
+    let number = number as usize;
+    if number >= functions.len() {
+        return Err(TypeFault::NoFunction(place));
+    }
+    let function = functions[number];
+    if !operand.is(&function.parameter) {
+        return Err(TypeFault::Mistyped(place));
+    }
+    Ok(function.result)
+}
+
+// The type of a command that no expression belongs to.
+fn check_simple(
+    functions: &[FunctionOutline],
+    scope: &[TypeCode],
+    simple: Simple,
+    place: usize,
+) -> Result<TypeCode, TypeFault>
+    ensures { λ r. ⌜ ((Φ : List Function) (Γ : List Ty) → Callable (now (functions .entry)) Φ → AllCoded (now (scope .entry)) Γ → Types r (checkSimple Φ Γ place simple)) ⌝ }
+{
+    match simple {
+        Simple::Atom(a) => operand_type(scope, a, place),
+        Simple::Pair(a, b) => {
+            let first = operand_type(scope, a, place)?;
+            let second = operand_type(scope, b, place)?;
+            TypeCode::pair(&first, &second).ok_or(TypeFault::OverLimit(place))
+        }
+        Simple::First(a) => {
+            let (first, _) = operand_parts(scope, a, place)?;
+            Ok(first)
+        }
+        Simple::Second(a) => {
+            let (_, second) = operand_parts(scope, a, place)?;
+            Ok(second)
+        }
+        Simple::Flip(_) => Ok(TypeCode::BOOL),
+        Simple::Observe(a) => {
+            check_bool(scope, a, place)?;
+            Ok(TypeCode::BOOL)
+        }
+        Simple::Call(number, a) => {
+            let operand = operand_type(scope, a, place)?;
+            check_call(functions, number, operand, place)
+        }
+    }
+}
+
+// The names in scope and one more.
+fn extended(scope: &[TypeCode], name: TypeCode) -> [TypeCode; 32]
+    requires { ⌜ length (now scope) < 32 ⌝ }
+    ensures { λ r. ⌜ take (length (now (scope .entry)) + 1) r ≡ now (scope .entry) ++ (name ∷ []) ⌝ }
+{
+    let mut names = [TypeCode::BOOL; 32];
+    for (i, known) in scope.iter().enumerate() {
+        names[i] = *known;
+    }
+    names[scope.len()] = name;
+    names
+}
+
+// The type of the expression at the front of `bytes`, the last ones of a program of `whole` bytes, and the bytes after it.
+fn check_expression<'a>(
+    bytes: &'a [u8],
+    whole: usize,
+    functions: &[FunctionOutline],
+    scope: &[TypeCode],
+) -> Result<(TypeCode, &'a [u8]), TypeFault>
+    requires { ⌜ length (now bytes) ≤ whole ⌝ }
+    ensures types { λ r. ⌜ ((Φ : List Function) (Γ : List Ty) (e : Expr) (end : List ℕ) → Callable (now (functions .entry)) Φ → AllCoded (now (scope .entry)) Γ → now (bytes .entry) ≡ encodeExpr e ++ end → Proper e → TypesPast end r (check Φ Γ (whole - length (now (bytes .entry))) e)) ⌝ }
+    ensures shorter { λ r. ⌜ made r (λ x. length (now (x .1)) < length (now (bytes .entry))) ⌝ }
+{
+    let place = whole - bytes.len();
+    let (command, rest) = next_command(bytes, whole)?;
+    match command {
+        Command::Simple(simple) => {
+            let found = check_simple(functions, scope, simple, place)?;
+            Ok((found, rest))
+        }
+        Command::If(guard) => {
+            check_bool(scope, guard, place)?;
+            let (first, rest) = check_expression(rest, whole, functions, scope)?;
+            let (second, rest) = check_expression(rest, whole, functions, scope)?;
+            if !first.is(&second) {
+                return Err(TypeFault::Mistyped(place));
+            }
+            Ok((second, rest))
+        }
+        Command::Let => {
+            let (first, rest) = check_expression(rest, whole, functions, scope)?;
+            if scope.len() >= MOST_NAMES {
+                return Err(TypeFault::OverLimit(place));
+            }
+            let names = extended(scope, first);
+            check_expression(rest, whole, functions, &names[0..scope.len() + 1])
+        }
+    }
+}
