@@ -11,3 +11,5 @@ pub mod CheckSteps
 pub mod Copies
 pub mod Heads
 pub mod CheckExprs
+pub mod Lies
+pub mod TypedBytes

@@ -12,6 +12,7 @@ use lib.ListN.{length, getD, length-append}
 use Rattle.std.specs.declared.result.Result.{Result}
 use Rattle.std.specs.declared.result.Result.the-variants.{Ok, Err}
 use Rattle.std.specs.Results.{ErrBy, isOk}
+use Rattle.std.specs.Vec.{made}
 use Rattle.std.proofs.shelf.Tests.{false≢true}
 use Rattle.std.proofs.shelf.Lists.{take-rest}
 use Rattle.language.specs.declared.fault.ReadFault.{ReadFault}
@@ -110,8 +111,8 @@ by-grammar bytes r h = record {
 
 -- both clauses of reading
 abbrev pub ReadsWell : (bytes : List ℕ) → Result Outline ReadFault → Type 0
-ReadsWell bytes r = record { exact : Reads r (treeOf bytes); grammar : ByGrammar bytes r }
+ReadsWell bytes r = record { exact : Reads r (treeOf bytes); grammar : ByGrammar bytes r; few : made r (λ o. o .count ≤ 16) }
 
 pub reads-well : (bytes : List ℕ) (r : Result Outline ReadFault) → Reads r (treeOf bytes) → ReadsWell bytes r
-reads-well bytes (Ok o) h = record { exact = h; grammar = by-grammar bytes (Ok o) (λ _. (h .0, h .1), λ _. refl) }
-reads-well bytes (Err fault) h = record { exact = h; grammar = by-grammar bytes (Err fault) (λ e. absurd (false≢true e), λ x. absurd (clash h (x .1))) }
+reads-well bytes (Ok o) h = record { exact = h; grammar = by-grammar bytes (Ok o) (λ _. (h .0, h .1), λ _. refl); few = omega (arith, h .2 .count-is, tree-sound bytes (h .0) (h .1) .1 .count) }
+reads-well bytes (Err fault) h = record { exact = h; grammar = by-grammar bytes (Err fault) (λ e. absurd (false≢true e), λ x. absurd (clash h (x .1))); few = tt }

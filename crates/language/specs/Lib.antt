@@ -6,3 +6,4 @@ pub mod Outlines
 pub mod Grammar
 pub mod Typing
 pub mod Unfolding
+pub mod TypedPrograms

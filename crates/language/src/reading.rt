@@ -115,6 +115,7 @@ fn read_functions(
 pub fn read(program: &[u8]) -> Result<Outline, ReadFault>
     ensures exact { λ r. ⌜ Reads r (treeOf (now (program .entry))) ⌝ }
     ensures grammar { λ r. ⌜ ByGrammar (now (program .entry)) r ⌝ }
+    ensures few { λ r. ⌜ made r (λ o. o .count ≤ 16) ⌝ }
 {
     if program.len() > MOST_BYTES {
         return Err(ReadFault::TooLong);

@@ -1,8 +1,11 @@
 // Typing: the type of each expression, to the first fault.
 ghost use Prim.Native.Nat.{ℕ, _+_, _-_, _≤_, _<_};
-ghost use Rattle.language.specs.Outlines.{Coded, AllCoded, Callable, Types, TypesPast, PartsTyped};
+ghost use Rattle.language.specs.Grammar.{Encodes};
+ghost use Rattle.language.specs.Outlines.{Coded, AllCoded, Callable, Outlines, Types, TypesPast, PartsTyped};
 ghost use Rattle.language.specs.Syntax.{Ty, Expr, Function, Program, Proper, encodeExpr};
-ghost use Rattle.language.specs.Typing.{operandType, boolOperand, pairOperand, callType, checkSimple, check};
+ghost use Rattle.language.specs.Typing.{operandType, boolOperand, pairOperand, callType, checkSimple, check, checkBody, checkBodies};
+ghost use Rattle.language.specs.TypedPrograms.{OutlinesTyped, ByRules};
+ghost use Rattle.language.specs.Unfolding.{typedOf};
 ghost use Rattle.std.specs.Vec.{made};
 ghost use lib.ListN.{length, take, drop};
 ghost use mathlib.Core.List.{List, [], _∷_, _++_};
@@ -14,6 +17,8 @@ use crate::command::next_command;
 use crate::fault::TypeFault;
 use crate::fault::TypeFaultFromRead;
 use crate::reading::FunctionOutline;
+use crate::reading::Outline;
+use crate::reading::read;
 use crate::types::TypeCode;
 
 // The most names in scope.
@@ -163,4 +168,60 @@ fn check_expression<'a>(
             check_expression(rest, whole, functions, &names[0..scope.len() + 1])
         }
     }
+}
+
+// The part of a program from a place on.
+pub fn part_from(program: &[u8], place: usize) -> &[u8]
+    ensures { λ r. ⌜ now r ≡ drop place (now (program .entry)) ⌝ }
+{
+    if place > program.len() {
+        return &[];
+    }
+    &program[place..]
+}
+
+// Checks the body of the function with a number: it has the type that the function promises.
+fn check_body(program: &[u8], outline: &Outline, number: usize) -> Result<(), TypeFault>
+    requires { ⌜ number < 16 ⌝ }
+    ensures { λ r. ⌜ ((p : Program) (before : List Function) (f : Function) (following : List Function) → Encodes (now (program .entry)) p → Outlines (now (outline .entry)) p → p .functions ≡ before ++ (f ∷ following) → number ≡ length before → r ≡ checkBody before f) ⌝ }
+{
+    let function = outline.functions[number];
+    let body = part_from(program, function.body);
+    let callable = &outline.functions[0..number];
+    let (found, _) = check_expression(body, program.len(), callable, &[function.parameter])?;
+    if !found.is(&function.result) {
+        return Err(TypeFault::Mistyped(function.body));
+    }
+    Ok(())
+}
+
+// Checks the bodies of all functions, in their order.
+fn check_bodies(program: &[u8], outline: &Outline) -> Result<(), TypeFault>
+    requires { ⌜ now outline .count ≤ 16 ⌝ }
+    ensures { λ r. ⌜ ((p : Program) → Encodes (now (program .entry)) p → Outlines (now (outline .entry)) p → r ≡ checkBodies [] (p .functions)) ⌝ }
+{
+    for number in 0..outline.count {
+        check_body(program, outline, number)?;
+    }
+    Ok(())
+}
+
+// A program that was read and typed: its outline, and the type of its main expression.
+#[derive(Clone, Copy)]
+pub struct TypedOutline {
+    pub outline: Outline,
+    pub value: TypeCode,
+}
+
+// The outline of a program with the type of its main expression, or the first fault of reading and typing.
+pub fn check_types(program: &[u8]) -> Result<TypedOutline, TypeFault>
+    ensures exact { λ r. ⌜ OutlinesTyped r (typedOf (now (program .entry))) ⌝ }
+    ensures derived { λ r. ⌜ ByRules (now (program .entry)) r ⌝ }
+{
+    let outline = read(program)?;
+    check_bodies(program, &outline)?;
+    let main = part_from(program, outline.main);
+    let callable = &outline.functions[0..outline.count];
+    let (value, _) = check_expression(main, program.len(), callable, &[])?;
+    Ok(TypedOutline { outline, value })
 }
