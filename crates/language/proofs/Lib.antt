@@ -13,3 +13,4 @@ pub mod Heads
 pub mod CheckExprs
 pub mod Lies
 pub mod TypedBytes
+pub mod Unfolds

@@ -7,3 +7,4 @@ pub mod Grammar
 pub mod Typing
 pub mod Unfolding
 pub mod TypedPrograms
+pub mod Accepting

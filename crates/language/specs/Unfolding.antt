@@ -1,8 +1,10 @@
 -- Unfolding: the tree of the main expression without functions, each call with the body that it calls.
+use mathlib.Core.Path.{_≡_}
 use mathlib.Core.List.{List, [], _∷_, _++_}
 use mathlib.Core.Bool.{cond}
-use Prim.Native.Nat.{ℕ, zero, suc, _+_}
+use Prim.Native.Nat.{ℕ, zero, suc, _+_, _<_}
 use lib.Dec.{leb}
+use lib.ListN.{length}
 use Rattle.std.specs.declared.result.Result.{Result}
 use Rattle.std.specs.declared.result.Result.the-variants.{Ok, Err}
 use Rattle.language.specs.declared.fault.ReadFault.{ReadFault}
@@ -92,9 +94,32 @@ unfoldable pub unfoldBodies : (before : List Function) (bodies : List Tree) (fs 
 unfoldBodies before bodies [] = bodies
 unfoldBodies before bodies (f ∷ fs) = unfoldBodies (before ++ (f ∷ [])) (bodies ++ (unfoldBody before bodies f ∷ [])) fs
 
+-- the bodies of a program's first functions
+abbrev pub bodiesOf : List Function → List Tree
+bodiesOf fs = unfoldBodies [] [] fs
+
 -- The unfolded tree of a program's main expression.
 abbrev pub unfolded : Program → Tree
-unfolded p = unfoldExpr (p .functions) (unfoldBodies [] [] (p .functions)) [] (p .main)
+unfolded p = unfoldExpr (p .functions) (bodiesOf (p .functions)) [] (p .main)
+
+-- only functions below a number are called, as in every typed program
+abbrev pub CallBelow : ℕ → Simple → Type 0
+CallBelow n (Atom a) = Unit {0}
+CallBelow n (Pair a b) = Unit {0}
+CallBelow n (First a) = Unit {0}
+CallBelow n (Second a) = Unit {0}
+CallBelow n (Flip row) = Unit {0}
+CallBelow n (Observe a) = Unit {0}
+CallBelow n (Call k a) = k < n
+
+abbrev pub CallsBelow : ℕ → Expr → Type 0
+CallsBelow n (plain s) = CallBelow n s
+CallsBelow n (branch a t u) = CallsBelow n t × CallsBelow n u
+CallsBelow n (bind t u) = CallsBelow n t × CallsBelow n u
+
+-- each body calls only functions before its own
+abbrev pub WellCalled : Program → Type 0
+WellCalled p = (before : List Function) (f : Function) (following : List Function) → p .functions ≡ before ++ (f ∷ following) → CallsBelow (length before) (f .body)
 
 -- a lower layer's outcome, with its fault carried whole
 abbrev pub fromReading : {A : Type 0} → Result A ReadFault → Result A TypeFault

@@ -4,3 +4,4 @@ pub mod fault;
 pub mod reading;
 pub mod types;
 pub mod typing;
+pub mod unfolding;
