@@ -14,3 +14,4 @@ pub mod CheckExprs
 pub mod Lies
 pub mod TypedBytes
 pub mod Unfolds
+pub mod AcceptedBytes

@@ -3,10 +3,13 @@ use mathlib.Core.Path.{_≡_, refl, sym, ap, subst, _∙_}
 use mathlib.Core.Bool.{Bool, true, false}
 use mathlib.Core.List.{List, []}
 use mathlib.Core.Logic.{_↔_}
-use Prim.Native.Nat.{ℕ}
+use Prim.Native.Nat.{ℕ, _≤_}
+use native.Mathlib.Omega.{arith}
+use lib.ListN.{length}
 use Rattle.std.specs.declared.result.Result.{Result}
 use Rattle.std.specs.declared.result.Result.the-variants.{Ok, Err}
 use Rattle.std.specs.Results.{ErrBy, isOk}
+use Rattle.std.specs.Vec.{made}
 use Rattle.std.proofs.shelf.Tests.{false≢true}
 use Rattle.language.specs.declared.fault.ReadFault.{ReadFault}
 use Rattle.language.specs.declared.fault.TypeFault.{TypeFault}
@@ -69,8 +72,11 @@ by-rules bytes r h = record {
 
 -- both clauses of typing
 abbrev pub TypesWell : (bytes : List ℕ) → Result TypedOutline TypeFault → Type 0
-TypesWell bytes r = record { exact : OutlinesTyped r (typedOf bytes); derived : ByRules bytes r }
+TypesWell bytes r = record { exact : OutlinesTyped r (typedOf bytes); derived : ByRules bytes r; within : made r (λ o. (length bytes ≤ 4096) × (o .outline .count ≤ 16)) }
 
 pub types-well : (bytes : List ℕ) (r : Result TypedOutline TypeFault) → OutlinesTyped r (typedOf bytes) → TypesWell bytes r
-types-well bytes (Ok o) h = record { exact = h; derived = by-rules bytes (Ok o) (λ _. (h .0, h .1), λ _. refl) }
-types-well bytes (Err fault) h = record { exact = h; derived = by-rules bytes (Err fault) (λ e. absurd (false≢true e), λ x. absurd (clash h (x .1))) }
+types-well bytes (Ok o) h = record { exact = h; derived = by-rules bytes (Ok o) (λ _. (h .0, h .1), λ _. refl); within = few }
+  where
+    few : (length bytes ≤ 4096) × (o .outline .count ≤ 16)
+    few = let e = typed-sound bytes (h .0) (h .1) .0 in (omega (arith, ap length (e .0), e .1 .bytes), omega (arith, h .2 .outline-is .count-is, e .1 .count))
+types-well bytes (Err fault) h = record { exact = h; derived = by-rules bytes (Err fault) (λ e. absurd (false≢true e), λ x. absurd (clash h (x .1))); within = tt }

@@ -217,6 +217,7 @@ pub struct TypedOutline {
 pub fn check_types(program: &[u8]) -> Result<TypedOutline, TypeFault>
     ensures exact { λ r. ⌜ OutlinesTyped r (typedOf (now (program .entry))) ⌝ }
     ensures derived { λ r. ⌜ ByRules (now (program .entry)) r ⌝ }
+    ensures within { λ r. ⌜ made r (λ o. (length (now (program .entry)) ≤ 4096) × (o .outline .count ≤ 16)) ⌝ }
 {
     let outline = read(program)?;
     check_bodies(program, &outline)?;

@@ -1,10 +1,10 @@
 // Unfolding: how large the main expression is with each call in the place of the body that it calls.
 ghost use Prim.Native.Nat.{ℕ, _+_, _≤_, _<_};
-ghost use Rattle.language.specs.Accepting.{Measures};
+ghost use Rattle.language.specs.Accepting.{Measures, Unfolds, ByAllRules};
 ghost use Rattle.language.specs.Grammar.{Encodes};
 ghost use Rattle.language.specs.Outlines.{Outlines};
 ghost use Rattle.language.specs.Syntax.{Ty, Expr, Function, Program, Proper, encodeExpr};
-ghost use Rattle.language.specs.Unfolding.{unfoldExpr, bodiesOf, CallsBelow, WellCalled};
+ghost use Rattle.language.specs.Unfolding.{unfoldExpr, bodiesOf, CallsBelow, WellCalled, acceptedOf};
 ghost use Rattle.std.specs.Results.{Cases};
 ghost use Rattle.std.specs.Vec.{made};
 ghost use Rattle.language.specs.declared.fault.UnfoldFault.the-variants.{Size};
@@ -93,4 +93,26 @@ fn measure<'a>(
             measure(program, outline, rest, below, with_first)
         }
     }
+}
+
+// A program that is accepted: what typing found, and the figures of its unfolded main expression.
+#[derive(Clone, Copy)]
+pub struct Unfolded {
+    pub typed: TypedOutline,
+    pub figures: Figures,
+}
+
+// What the three layers find of a program, or the first fault.
+pub fn unfold_main(program: &[u8]) -> Result<Unfolded, UnfoldFault>
+    ensures exact { λ r. ⌜ Unfolds r (acceptedOf (now (program .entry))) ⌝ }
+    ensures rules { λ r. ⌜ ByAllRules (now (program .entry)) r ⌝ }
+{
+    let typed = check_types(program)?;
+    let outline = typed.outline;
+    let main = part_from(program, outline.main);
+    let (figures, _) = measure(program, &outline, main, outline.count, Figures::NONE)?;
+    if figures.flips > MOST_FLIPS {
+        return Err(UnfoldFault::Flips);
+    }
+    Ok(Unfolded { typed, figures })
 }
