@@ -8,3 +8,4 @@ pub mod Typing
 pub mod Unfolding
 pub mod TypedPrograms
 pub mod Accepting
+pub mod Cases
