@@ -1,5 +1,6 @@
 // What is wrong with a program: the faults of each layer, and the refusal that each stands for.
 ghost use Rattle.language.specs.Refusals.{refusalOfRead, refusalOfTyping, refusalOfUnfolding};
+ghost use Rattle.language.specs.declared.fault.Refusal.{Refusal};
 ghost use Rattle.language.specs.declared.fault.TypeFault.the-variants.{Reading};
 ghost use Rattle.language.specs.declared.fault.UnfoldFault.the-variants.{Typing};
 ghost use mathlib.Core.Path.{_≡_};
@@ -20,6 +21,33 @@ pub struct Refusal {
     pub place: usize,
 }
 
+// What stops the work on a program: each case stands for one refusal.
+pub trait Fault {
+    // By the table of refusals.
+    ghost means: { Self → Refusal };
+
+    fn refusal(&self) -> Refusal
+        ensures { λ r. ⌜ r ≡ means (now (self .entry)) ⌝ };
+
+    fn number(&self) -> u8
+        ensures { λ r. ⌜ r ≡ means (now (self .entry)) .number ⌝ }
+    {
+        self.refusal().number
+    }
+
+    fn layer(&self) -> Layer
+        ensures { λ r. ⌜ r ≡ means (now (self .entry)) .layer ⌝ }
+    {
+        self.refusal().layer
+    }
+
+    fn place(&self) -> usize
+        ensures { λ r. ⌜ r ≡ means (now (self .entry)) .place ⌝ }
+    {
+        self.refusal().place
+    }
+}
+
 // What stops the reading of a program.
 #[derive(Clone, Copy, Debug, PartialEq, Eq)]
 pub enum ReadFault {
@@ -35,10 +63,10 @@ pub enum ReadFault {
     Trailing(usize),
 }
 
-impl ReadFault {
-    pub fn refusal(&self) -> Refusal
-        ensures { λ r. ⌜ r ≡ refusalOfRead (now (self .entry)) ⌝ }
-    {
+pub impl Fault for ReadFault as ReadFaultRefusal {
+    ghost means = { refusalOfRead };
+
+    fn refusal(&self) -> Refusal {
         let (number, place) = match self {
             ReadFault::TooLong => (1, 4096),
             ReadFault::Ends(place) => (2, *place),
@@ -51,24 +79,6 @@ impl ReadFault {
             layer: Layer::Reading,
             place,
         }
-    }
-
-    pub fn number(&self) -> u8
-        ensures { λ r. ⌜ r ≡ refusalOfRead (now (self .entry)) .number ⌝ }
-    {
-        self.refusal().number
-    }
-
-    pub fn layer(&self) -> Layer
-        ensures { λ r. ⌜ r ≡ refusalOfRead (now (self .entry)) .layer ⌝ }
-    {
-        self.refusal().layer
-    }
-
-    pub fn place(&self) -> usize
-        ensures { λ r. ⌜ r ≡ refusalOfRead (now (self .entry)) .place ⌝ }
-    {
-        self.refusal().place
     }
 }
 
@@ -86,10 +96,10 @@ pub enum TypeFault {
     OverLimit(usize),
 }
 
-impl TypeFault {
-    pub fn refusal(&self) -> Refusal
-        ensures { λ r. ⌜ r ≡ refusalOfTyping (now (self .entry)) ⌝ }
-    {
+pub impl Fault for TypeFault as TypeFaultRefusal {
+    ghost means = { refusalOfTyping };
+
+    fn refusal(&self) -> Refusal {
         let (number, place) = match self {
             TypeFault::Reading(fault) => return fault.refusal(),
             TypeFault::OutOfScope(place) => (6, *place),
@@ -102,24 +112,6 @@ impl TypeFault {
             layer: Layer::Typing,
             place,
         }
-    }
-
-    pub fn number(&self) -> u8
-        ensures { λ r. ⌜ r ≡ refusalOfTyping (now (self .entry)) .number ⌝ }
-    {
-        self.refusal().number
-    }
-
-    pub fn layer(&self) -> Layer
-        ensures { λ r. ⌜ r ≡ refusalOfTyping (now (self .entry)) .layer ⌝ }
-    {
-        self.refusal().layer
-    }
-
-    pub fn place(&self) -> usize
-        ensures { λ r. ⌜ r ≡ refusalOfTyping (now (self .entry)) .place ⌝ }
-    {
-        self.refusal().place
     }
 }
 
@@ -141,10 +133,10 @@ pub enum UnfoldFault {
     Flips,
 }
 
-impl UnfoldFault {
-    pub fn refusal(&self) -> Refusal
-        ensures { λ r. ⌜ r ≡ refusalOfUnfolding (now (self .entry)) ⌝ }
-    {
+pub impl Fault for UnfoldFault as UnfoldFaultRefusal {
+    ghost means = { refusalOfUnfolding };
+
+    fn refusal(&self) -> Refusal {
         let number = match self {
             UnfoldFault::Typing(fault) => return fault.refusal(),
             UnfoldFault::Size => 10,
@@ -155,24 +147,6 @@ impl UnfoldFault {
             layer: Layer::Unfolding,
             place: 0,
         }
-    }
-
-    pub fn number(&self) -> u8
-        ensures { λ r. ⌜ r ≡ refusalOfUnfolding (now (self .entry)) .number ⌝ }
-    {
-        self.refusal().number
-    }
-
-    pub fn layer(&self) -> Layer
-        ensures { λ r. ⌜ r ≡ refusalOfUnfolding (now (self .entry)) .layer ⌝ }
-    {
-        self.refusal().layer
-    }
-
-    pub fn place(&self) -> usize
-        ensures { λ r. ⌜ r ≡ refusalOfUnfolding (now (self .entry)) .place ⌝ }
-    {
-        self.refusal().place
     }
 }
 

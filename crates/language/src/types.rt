@@ -28,7 +28,7 @@ impl TypeCode {
     };
 
     // The type with these bytes.
-    pub fn of(bytes: &[u8]) -> TypeCode
+    pub(crate) fn of(bytes: &[u8]) -> TypeCode
         requires { ⌜ length (now bytes) ≤ 31 ⌝ }
         ensures { λ r. ⌜ typeBytes r ≡ now (bytes .entry) ⌝ }
     {
@@ -52,7 +52,7 @@ impl TypeCode {
     }
 
     // Whether it is the same type as `other`.
-    pub fn is(&self, other: &TypeCode) -> bool
+    pub(crate) fn is(&self, other: &TypeCode) -> bool
         ensures { λ r. ⌜ Decides r (typeBytes (now (self .entry)) ≡ typeBytes (now (other .entry))) ⌝ }
     {
         self.as_slice() == other.as_slice()
@@ -66,7 +66,7 @@ impl TypeCode {
     }
 
     // The pair of two types, unless it has too many leaves.
-    pub fn pair(first: &TypeCode, second: &TypeCode) -> Option<TypeCode>
+    pub(crate) fn pair(first: &TypeCode, second: &TypeCode) -> Option<TypeCode>
         ensures { λ r. ⌜ ((σ τ : Ty) → Coded (now (first .entry)) σ → Coded (now (second .entry)) τ → PairCoded r σ τ) ⌝ }
     {
         let (first, second) = (first.as_slice(), second.as_slice());
@@ -83,7 +83,7 @@ impl TypeCode {
     }
 
     // The two parts of a pair.
-    pub fn parts(&self) -> Option<(TypeCode, TypeCode)>
+    pub(crate) fn parts(&self) -> Option<(TypeCode, TypeCode)>
         ensures { λ r. ⌜ ((τ : Ty) → Coded (now (self .entry)) τ → PartsCoded r τ) ⌝ }
     {
         let [1, parts @ ..] = self.as_slice() else {
@@ -107,7 +107,7 @@ fn put(bytes: &mut [u8], from: usize, part: &[u8])
 }
 
 // The number of leaves of the type at the front of `bytes`, the last ones of a program of `whole` bytes, and the bytes after it.
-pub fn read_leaves(bytes: &[u8], whole: usize) -> Result<(usize, &[u8]), ReadFault>
+pub(crate) fn read_leaves(bytes: &[u8], whole: usize) -> Result<(usize, &[u8]), ReadFault>
     requires { ⌜ length (now bytes) ≤ whole ⌝ }
     ensures gives { λ r. ⌜ Follows Counted r (typeFrom whole (now (bytes .entry))) ⌝ }
     ensures shorter { λ r. ⌜ made r (λ x. x .0 + length (now (x .1)) ≤ length (now (bytes .entry))) ⌝ }

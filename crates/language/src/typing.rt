@@ -160,11 +160,11 @@ fn check_expression<'a>(
             Ok((second, rest))
         }
         Command::Let => {
-            let (first, rest) = check_expression(rest, whole, functions, scope)?;
+            let (bound, rest) = check_expression(rest, whole, functions, scope)?;
             if scope.len() >= MOST_NAMES {
                 return Err(TypeFault::OverLimit(place));
             }
-            let names = extended(scope, first);
+            let names = extended(scope, bound);
             check_expression(rest, whole, functions, &names[0..scope.len() + 1])
         }
     }

@@ -130,15 +130,15 @@ returns-else-not-is t c = record {
   shorter = omega (arith, c .in-Continue-second .ensures tt .shorter, c .in-Continue-first .ensures tt .shorter, c .in-Continue-command .ensures tt .shorter);
 }
 
-pub returns-in-Break-first-2 : need.returns-in-Break-first-2
-returns-in-Break-first-2 t c = record {
+pub returns-in-Break-bound : need.returns-in-Break-bound
+returns-in-Break-bound t c = record {
   types = λ Φ Γ e end call coded b h.
     let i = parts (c .args .whole) (c .args .bytes .now) (c .in-Continue-command .rest .now) end e (c .in-Continue-command .command) (c .pre) (as-read (c .in-Continue-command .ensures tt .gives)) (c .in-Let .is) b h in
     let p = c .args .whole - length (c .args .bytes .now) in
-    broke-past end (c .from-residual-in-Break-first-2 .result) _ (c .from-residual-in-Break-first-2 .ensures .1)
+    broke-past end (c .from-residual-in-Break-bound .result) _ (c .from-residual-in-Break-bound .ensures .1)
     (ap (check Φ Γ p) (i .expr-is) ∙ first-part-fault Φ Γ p (i .first) (i .second)
-    (moved Φ Γ (i .first) (c .in-Break-first-2 .ensures tt .types Φ Γ (i .first) (encodeExpr (i .second) ++ end) call coded (i .rest-is) (i .first-proper)) (i .first-place)));
-  shorter = made-from-err (c .from-residual-in-Break-first-2 .result) _ (c .from-residual-in-Break-first-2 .ensures .0);
+    (moved Φ Γ (i .first) (c .in-Break-bound .ensures tt .types Φ Γ (i .first) (encodeExpr (i .second) ++ end) call coded (i .rest-is) (i .first-proper)) (i .first-place)));
+  shorter = made-from-err (c .from-residual-in-Break-bound .result) _ (c .from-residual-in-Break-bound .ensures .0);
 }
 
 pub returns-then-scope-ge-MOST-NAMES : need.returns-then-scope-ge-MOST-NAMES
@@ -146,7 +146,7 @@ returns-then-scope-ge-MOST-NAMES t c = record {
   types = λ Φ Γ e end call coded b h.
     let i = parts (c .args .whole) (c .args .bytes .now) (c .in-Continue-command .rest .now) end e (c .in-Continue-command .command) (c .pre) (as-read (c .in-Continue-command .ensures tt .gives)) (c .in-Let .is) b h in
     let p = c .args .whole - length (c .args .bytes .now) in
-    let f = c .in-Continue-first-2 .ensures tt .types Φ Γ (i .first) (encodeExpr (i .second) ++ end) call coded (i .rest-is) (i .first-proper) in
+    let f = c .in-Continue-bound .ensures tt .types Φ Γ (i .first) (encodeExpr (i .second) ++ end) call coded (i .rest-is) (i .first-proper) in
     ap (check Φ Γ p) (i .expr-is) ∙ names-over Φ Γ p (i .first) (i .second) (moved Φ Γ (i .first) (f .2) (i .first-place)) (omega (arith, scope-length (c .args .scope .now) Γ coded));
   shorter = tt;
 }
@@ -156,16 +156,16 @@ returns-else-scope-ge-MOST-NAMES t c = record {
   types = λ Φ Γ e end call coded b h.
     let i = parts (c .args .whole) (c .args .bytes .now) (c .in-Continue-command .rest .now) end e (c .in-Continue-command .command) (c .pre) (as-read (c .in-Continue-command .ensures tt .gives)) (c .in-Let .is) b h in
     let p = c .args .whole - length (c .args .bytes .now) in
-    let f = c .in-Continue-first-2 .ensures tt .types Φ Γ (i .first) (encodeExpr (i .second) ++ end) call coded (i .rest-is) (i .first-proper) in
+    let f = c .in-Continue-bound .ensures tt .types Φ Γ (i .first) (encodeExpr (i .second) ++ end) call coded (i .rest-is) (i .first-proper) in
     let n = length (c .args .scope .now) in
-    let names : take (n + 1 - 0) (c .extended-names .result) ≡ c .args .scope .now ++ (c .in-Continue-first-2 .first ∷ []) = ap (λ (k : ℕ). take k (c .extended-names .result)) (sub-zero (n + 1)) ∙ c .extended-names .ensures in
-    let inner = subst (λ (ts : List TypeCode). AllCoded ts (Γ ++ (f .0 ∷ []))) (sym names) (scope-more (c .args .scope .now) Γ (c .in-Continue-first-2 .first) (f .0) coded (f .1)) in
+    let names : take (n + 1 - 0) (c .extended-names .result) ≡ c .args .scope .now ++ (c .in-Continue-bound .bound ∷ []) = ap (λ (k : ℕ). take k (c .extended-names .result)) (sub-zero (n + 1)) ∙ c .extended-names .ensures in
+    let inner = subst (λ (ts : List TypeCode). AllCoded ts (Γ ++ (f .0 ∷ []))) (sym names) (scope-more (c .args .scope .now) Γ (c .in-Continue-bound .bound) (f .0) coded (f .1)) in
     past-same end (c .check-expression-in-Let-2 .result)
     (ap (check Φ Γ p) (i .expr-is) ∙ second-part Φ Γ p (i .first) (i .second) (moved Φ Γ (i .first) (f .2) (i .first-place)) (omega (arith, scope-length (c .args .scope .now) Γ coded))
-    ∙ ap (λ (k : ℕ). check Φ (Γ ++ (f .0 ∷ [])) k (i .second)) (sym (i .second-place (c .in-Continue-first-2 .rest .now) (f .3))))
+    ∙ ap (λ (k : ℕ). check Φ (Γ ++ (f .0 ∷ [])) k (i .second)) (sym (i .second-place (c .in-Continue-bound .rest .now) (f .3))))
     (c .check-expression-in-Let-2 .ensures .types Φ (Γ ++ (f .0 ∷ [])) (i .second) end call inner (f .3) (i .second-proper));
   shorter =
     made-weaker (c .check-expression-in-Let-2 .result) _ _
-    (λ x k. omega (arith, c .in-Continue-first-2 .ensures tt .shorter, c .in-Continue-command .ensures tt .shorter))
+    (λ x k. omega (arith, c .in-Continue-bound .ensures tt .shorter, c .in-Continue-command .ensures tt .shorter))
     (c .check-expression-in-Let-2 .ensures .shorter);
 }
