@@ -239,11 +239,10 @@ function-sound w bytes y h =
     let p = narrow-ok w bytes (a .1) in
     let q = narrow-ok w (a .0 .1) (b .1) in
     let r = expr-sound w (b .0 .1) (c .0) (c .1) in
-    subst (λ (z : Function × List ℕ). (bytes ≡ encodeFunction (z .0) ++ z .1) × Readable (z .0)) (ok-same refl (c .2))
-    (
+    subst (λ (z : Function × List ℕ). (bytes ≡ encodeFunction (z .0) ++ z .1) × Readable (z .0)) (ok-same refl (c .2)) (
       type-sound w bytes (a .0) (p .0)
-      ∙ ap (λ (x : List ℕ). encodeTy (a .0 .0) ++ x) (type-sound w (a .0 .1) (b .0) (q .0) ∙ ap (λ (x : List ℕ). encodeTy (b .0 .0) ++ x) (r .0))
-      ∙ sym (append-assoc (encodeTy (a .0 .0)) (encodeTy (b .0 .0) ++ encodeExpr (c .0 .0)) (c .0 .1) ∙ ap (λ (x : List ℕ). encodeTy (a .0 .0) ++ x) (append-assoc (encodeTy (b .0 .0)) (encodeExpr (c .0 .0)) (c .0 .1))),
+          ∙ ap (λ (x : List ℕ). encodeTy (a .0 .0) ++ x) (type-sound w (a .0 .1) (b .0) (q .0) ∙ ap (λ (x : List ℕ). encodeTy (b .0 .0) ++ x) (r .0))
+          ∙ sym (append-assoc (encodeTy (a .0 .0)) (encodeTy (b .0 .0) ++ encodeExpr (c .0 .0)) (c .0 .1) ∙ ap (λ (x : List ℕ). encodeTy (a .0 .0) ++ x) (append-assoc (encodeTy (b .0 .0)) (encodeExpr (c .0 .0)) (c .0 .1))),
       record { parameter-leaves = p .1; result-leaves = q .1; body-proper = r .1 },
     )
 
@@ -263,8 +262,7 @@ functions-sound w (suc count) bytes y h =
     let b = then-ok (functionsFrom w count (a .0 .1)) (λ fs. Ok (a .0 .0 ∷ fs .0, fs .1)) (a .2) in
     let p = function-sound w bytes (a .0) (a .1) in
     let q = functions-sound w count (a .0 .1) (b .0) (b .1) in
-    subst (λ (z : List Function × List ℕ). (bytes ≡ encodeFunctions (z .0) ++ z .1) × AllReadable (z .0) × (length (z .0) ≡ suc count)) (ok-same refl (b .2))
-    (
+    subst (λ (z : List Function × List ℕ). (bytes ≡ encodeFunctions (z .0) ++ z .1) × AllReadable (z .0) × (length (z .0) ≡ suc count)) (ok-same refl (b .2)) (
       p .0 ∙ ap (λ (x : List ℕ). encodeFunction (a .0 .0) ++ x) (q .0) ∙ sym (append-assoc (encodeFunction (a .0 .0)) (encodeFunctions (b .0 .0)) (b .0 .1)),
       (p .1, q .1),
       ap suc (q .2),

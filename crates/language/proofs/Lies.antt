@@ -31,8 +31,8 @@ body-lies p before f following e =
     let fs : encodeFunctions (p .functions) ≡ encodeFunctions before ++ (encodeFunction f ++ encodeFunctions following) = ap encodeFunctions e ∙ encode-functions-append before (f ∷ following) in
     let one : encodeFunction f ≡ types ++ encodeExpr (f .body) = sym (append-assoc (encodeTy (f .parameter)) (encodeTy (f .result)) (encodeExpr (f .body))) in
     let all : encodeFunctions (p .functions) ++ encodeExpr (p .main) ≡ (encodeFunctions before ++ types) ++ (encodeExpr (f .body) ++ last) =
-      ap (λ (x : List ℕ). x ++ encodeExpr (p .main)) (fs ∙ ap (λ (x : List ℕ). encodeFunctions before ++ (x ++ encodeFunctions following)) one)
-      ∙ simp append-assoc in
+    ap (λ (x : List ℕ). x ++ encodeExpr (p .main)) (fs ∙ ap (λ (x : List ℕ). encodeFunctions before ++ (x ++ encodeFunctions following)) one)
+    ∙ simp append-assoc in
     lies (length (p .functions) ∷ (encodeFunctions before ++ types)) (f .body) last (encode p) (bodyPlace (placeAfter before) f) (ap (λ (x : List ℕ). length (p .functions) ∷ x) all)
     (omega (arith, length-append (encodeFunctions before) types, length-append (encodeTy (f .parameter)) (encodeTy (f .result))))
 
@@ -47,14 +47,13 @@ readable-at (g ∷ before) f following h = readable-at before f following (h .1)
 
 -- the first functions of a program, as those that may be called
 pub callable-front : (os : List FunctionOutline) (fs front following : List Function) → AllOutlined os fs → fs ≡ front ++ following → length front ≤ length os → Callable (take (length front) os) front
-callable-front os fs front following all e h =
-    (
-      (λ before g later c.
-        let n : length before < length front = omega (arith, ap length c, length-append before (g ∷ later)) in
-        let whole : fs ≡ before ++ (g ∷ (later ++ following)) = e ∙ ap (λ (x : List Function). x ++ following) c ∙ append-assoc before (g ∷ later) following in
-        subst (λ (o : FunctionOutline). Outlined (placeAfter before) o g) (sym (getD-take (length front) os (length before) noFunction n)) (all before g (later ++ following) whole)),
-      sym (length-take-le (length front) os h),
-    )
+callable-front os fs front following all e h = (
+  (λ before g later c.
+      let n : length before < length front = omega (arith, ap length c, length-append before (g ∷ later)) in
+      let whole : fs ≡ before ++ (g ∷ (later ++ following)) = e ∙ ap (λ (x : List Function). x ++ following) c ∙ append-assoc before (g ∷ later) following in
+      subst (λ (o : FunctionOutline). Outlined (placeAfter before) o g) (sym (getD-take (length front) os (length before) noFunction n)) (all before g (later ++ following) whole)),
+  sym (length-take-le (length front) os h),
+)
 
 -- what the code has in hand when it goes into the body of a function
 pub record BodyReady (bytes : List ℕ) (o : Outline) (number : ℕ) (part : List ℕ) (before : List Function) (f : Function) : Type 0 where

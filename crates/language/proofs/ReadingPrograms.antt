@@ -72,10 +72,9 @@ program-sound w (count ∷ rest) p short h =
     let f = functions-sound w count rest (a .0) (a .1) in
     let m = expr-sound w (a .0 .1) (b .0) (b .1) in
     let bytes : count ∷ rest ≡ encode (record { functions = a .0 .0; main = b .0 .0 }) =
-      ap (λ (n : ℕ). n ∷ rest) (sym (f .2))
-      ∙ ap (λ (r : List ℕ). length (a .0 .0) ∷ r) (f .0 ∙ ap (λ (r : List ℕ). encodeFunctions (a .0 .0) ++ r) (m .0 ∙ ap (λ (r : List ℕ). encodeExpr (b .0 .0) ++ r) (c .0) ∙ append-nil (encodeExpr (b .0 .0)))) in
-    subst (λ (q : Program). (count ∷ rest ≡ encode q) × WithinReading q) (c .1)
-    (
+    ap (λ (n : ℕ). n ∷ rest) (sym (f .2))
+    ∙ ap (λ (r : List ℕ). length (a .0 .0) ∷ r) (f .0 ∙ ap (λ (r : List ℕ). encodeFunctions (a .0 .0) ++ r) (m .0 ∙ ap (λ (r : List ℕ). encodeExpr (b .0 .0) ++ r) (c .0) ∙ append-nil (encodeExpr (b .0 .0)))) in
+    subst (λ (q : Program). (count ∷ rest ≡ encode q) × WithinReading q) (c .1) (
       bytes,
       record {
         bytes = subst (λ (l : List ℕ). length l ≤ 4096) bytes short;

@@ -76,7 +76,11 @@ unfolding unfoldExpr
 branch-splits a w bytes rest end e p =
     subst (Splits rest end) (sym (p .expr-is))
     (record {
-      first = p .first; second = p .second; rest-is = p .rest-is; first-proper = p .first-proper; second-proper = p .second-proper;
+      first = p .first;
+      second = p .second;
+      rest-is = p .rest-is;
+      first-proper = p .first-proper;
+      second-proper = p .second-proper;
       calls = λ n h. h;
       scope = λ Φ bodies Γ. Γ;
       sizes = λ Φ bodies Γ. refl;
@@ -88,7 +92,11 @@ unfolding unfoldExpr
 bind-splits w bytes rest end e p =
     subst (Splits rest end) (sym (p .expr-is))
     (record {
-      first = p .first; second = p .second; rest-is = p .rest-is; first-proper = p .first-proper; second-proper = p .second-proper;
+      first = p .first;
+      second = p .second;
+      rest-is = p .rest-is;
+      first-proper = p .first-proper;
+      second-proper = p .second-proper;
       calls = λ n h. h;
       scope = λ Φ bodies Γ. Γ ++ (foundType (check Φ Γ 0 (p .first)) ∷ []);
       sizes = λ Φ bodies Γ. refl;

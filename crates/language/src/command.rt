@@ -67,7 +67,10 @@ pub fn next_command(bytes: &[u8], whole: usize) -> Result<(Command, &[u8]), Read
         [7, rest @ ..] => Ok((Command::Let, rest)),
         [8, a, rest @ ..] => Ok((Command::Simple(Simple::Observe(Operand::of(*a))), rest)),
         [9, function, a, rest @ ..] => {
-            Ok((Command::Simple(Simple::Call(*function, Operand::of(*a))), rest))
+            Ok((
+                Command::Simple(Simple::Call(*function, Operand::of(*a))),
+                rest,
+            ))
         }
         [] | [1..=9, ..] => Err(ReadFault::Ends(whole)),
         _ => Err(ReadFault::Unknown(whole - bytes.len())),

@@ -16,6 +16,7 @@ use crate::types::read_leaves;
 
 // The most bytes of a program, and the most functions.
 pub const MOST_BYTES: usize = 4096;
+
 pub const MOST_FUNCTIONS: usize = 16;
 
 // A function: its types, and the place where its body begins.

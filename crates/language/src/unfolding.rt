@@ -25,6 +25,7 @@ use crate::typing::part_from;
 
 // The most commands and the most flips of an unfolded main expression.
 pub const MOST_COMMANDS: usize = 4096;
+
 pub const MOST_FLIPS: usize = 128;
 
 // Commands and flips, counted up to 4,096 commands.

@@ -72,9 +72,18 @@ fn report(rt: &LibcRuntime, name: &str, program: &Vec<u8>) -> Result<(), AnyErro
     match inspect(program.as_slice()) {
         Ok(found) => {
             let (size, flips) = (found.size, found.flips);
-            println!(rt, "{name}: functions {} size {size} flips {flips} leaves {}", found.functions, found.leaves)?;
+            println!(
+                rt,
+                "{name}: functions {} size {size} flips {flips} leaves {}",
+                found.functions, found.leaves
+            )?;
         }
-        Err(fault) => println!(rt, "{name}: refused {} at {}", fault.number(), fault.place())?,
+        Err(fault) => println!(
+            rt,
+            "{name}: refused {} at {}",
+            fault.number(),
+            fault.place()
+        )?,
     }
     Ok(())
 }
@@ -91,7 +100,28 @@ fn flips_and_names(rt: &LibcRuntime) -> Result<(), AnyError> {
 fn types(rt: &LibcRuntime) -> Result<(), AnyError> {
     let heap = rt.alloc();
     let pairs = [0, 7, 2, 0xfe, 0xff, 7, 2, 0, 0, 7, 2, 1, 1, 2, 2, 2];
-    let wider = [0, 7, 2, 0xfe, 0xff, 7, 2, 0, 0, 7, 2, 1, 1, 7, 2, 2, 2, 2, 3, 0xff];
+    let wider = [
+        0,
+        7,
+        2,
+        0xfe,
+        0xff,
+        7,
+        2,
+        0,
+        0,
+        7,
+        2,
+        1,
+        1,
+        7,
+        2,
+        2,
+        2,
+        2,
+        3,
+        0xff,
+    ];
     report(rt, "type of 16 leaves", &wide_type(heap, 16)?)?;
     report(rt, "type of 17 leaves", &wide_type(heap, 17)?)?;
     report(rt, "pair of 16 leaves", &of(heap, &pairs)?)?;
@@ -101,9 +131,21 @@ fn types(rt: &LibcRuntime) -> Result<(), AnyError> {
 
 fn sizes(rt: &LibcRuntime) -> Result<(), AnyError> {
     let heap = rt.alloc();
-    report(rt, "size 4096", &calling(heap, 11, 1, &[7, 9, 10, 0xfe, 1, 0xfe])?)?;
-    report(rt, "size 4097", &calling(heap, 11, 1, &[7, 9, 10, 0xfe, 9, 0, 0xfe])?)?;
-    report(rt, "60 calls in each of 16", &calling(heap, 16, 60, &[9, 15, 0xfe])?)?;
+    report(
+        rt,
+        "size 4096",
+        &calling(heap, 11, 1, &[7, 9, 10, 0xfe, 1, 0xfe])?,
+    )?;
+    report(
+        rt,
+        "size 4097",
+        &calling(heap, 11, 1, &[7, 9, 10, 0xfe, 9, 0, 0xfe])?,
+    )?;
+    report(
+        rt,
+        "60 calls in each of 16",
+        &calling(heap, 16, 60, &[9, 15, 0xfe])?,
+    )?;
     report(rt, "16 functions", &functions(heap, 16)?)?;
     report(rt, "17 functions", &functions(heap, 17)?)?;
     Ok(())

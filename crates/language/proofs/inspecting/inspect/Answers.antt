@@ -12,8 +12,7 @@ pub returns : need.returns
 returns c =
     let u = c .in-Continue-unfolded .ensures tt .exact in
     let b = u .2 in
-    inspects-well (c .args .program .now) (Ok _)
-    (
+    inspects-well (c .args .program .now) (Ok _) (
       u .0,
       u .1,
       record {

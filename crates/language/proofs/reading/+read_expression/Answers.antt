@@ -16,8 +16,8 @@ pub returns-in-Break-command : need.returns-in-Break-command
 returns-in-Break-command t c =
     record {
       gives =
-        broke-passing (c .from-residual .result) _ (c .from-residual .ensures .1)
-        (expr-grows (c .args .whole) (c .args .bytes .now) ∙ then-err _ (then-err _ (c .in-Break-command .ensures tt .gives)));
+          broke-passing (c .from-residual .result) _ (c .from-residual .ensures .1)
+          (expr-grows (c .args .whole) (c .args .bytes .now) ∙ then-err _ (then-err _ (c .in-Break-command .ensures tt .gives)));
       shorter = made-from-err (c .from-residual .result) _ (c .from-residual .ensures .0);
     }
 
@@ -27,7 +27,7 @@ returns-in-Simple t c =
       gives = (
         plain (c .in-Simple .field-0),
         expr-after (c .args .whole) (c .args .bytes .now) (as-read (c .in-Continue-command .ensures tt .gives))
-        ∙ ap (λ (k : Command). grow (exprFrom (c .args .whole)) (frontOf k) (c .in-Continue-command .rest .now)) (c .in-Simple .is),
+            ∙ ap (λ (k : Command). grow (exprFrom (c .args .whole)) (frontOf k) (c .in-Continue-command .rest .now)) (c .in-Simple .is),
       );
       shorter = c .in-Continue-command .ensures tt .shorter;
     }
@@ -37,9 +37,9 @@ returns-in-Break-rest t c =
     let f = forks (c .in-Continue-command .command) (c .in-If .is) in
     record {
       gives =
-        broke-passing (c .from-residual-in-Break-rest .result) _ (c .from-residual-in-Break-rest .ensures .1)
-        (expr-forks (c .args .whole) (c .args .bytes .now) (as-read (c .in-Continue-command .ensures tt .gives)) (f .1)
-        ∙ fork-first (exprFrom (c .args .whole)) (f .0) _ (c .in-Break-rest .ensures tt .gives));
+          broke-passing (c .from-residual-in-Break-rest .result) _ (c .from-residual-in-Break-rest .ensures .1)
+          (expr-forks (c .args .whole) (c .args .bytes .now) (as-read (c .in-Continue-command .ensures tt .gives)) (f .1)
+          ∙ fork-first (exprFrom (c .args .whole)) (f .0) _ (c .in-Break-rest .ensures tt .gives));
       shorter = made-from-err (c .from-residual-in-Break-rest .result) _ (c .from-residual-in-Break-rest .ensures .0);
     }
 
@@ -48,13 +48,13 @@ returns-in-Continue-rest t c =
     let f = forks (c .in-Continue-command .command) (c .in-If .is) in
     record {
       gives =
-        second-passed (c .args .whole) (f .0) (c .in-Continue-command .rest .now) (c .in-Continue-rest .rest .now)
-        (expr-forks (c .args .whole) (c .args .bytes .now) (as-read (c .in-Continue-command .ensures tt .gives)) (f .1))
-        (c .in-Continue-rest .ensures tt .gives .1)
-        (c .read-expression-in-If .result)
-        (c .read-expression-in-If .ensures .gives);
+          second-passed (c .args .whole) (f .0) (c .in-Continue-command .rest .now) (c .in-Continue-rest .rest .now)
+          (expr-forks (c .args .whole) (c .args .bytes .now) (as-read (c .in-Continue-command .ensures tt .gives)) (f .1))
+          (c .in-Continue-rest .ensures tt .gives .1)
+          (c .read-expression-in-If .result)
+          (c .read-expression-in-If .ensures .gives);
       shorter =
-        made-weaker (c .read-expression-in-If .result) _ _
-        (λ x h. omega (arith, c .in-Continue-rest .ensures tt .shorter, c .in-Continue-command .ensures tt .shorter))
-        (c .read-expression-in-If .ensures .shorter);
+          made-weaker (c .read-expression-in-If .result) _ _
+          (λ x h. omega (arith, c .in-Continue-rest .ensures tt .shorter, c .in-Continue-command .ensures tt .shorter))
+          (c .read-expression-in-If .ensures .shorter);
     }

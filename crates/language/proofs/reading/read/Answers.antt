@@ -43,13 +43,12 @@ returns c =
     let e = c .in-Continue-rest .ensures tt .gives in
     let some : 0 < length s = search needs in
     let f = functions-sound (length s) (getD s 0 0) (after 1 s) (fs .0, c .in-Continue-functions .rest .now) (fs .2) in
-    reads-well s (Ok _)
-    (
+    reads-well s (Ok _) (
       record { functions = fs .0; main = e .0 },
       program-begins s (search needs) (search needs) (search needs)
-      ∙ then-at (λ fs. mainFrom (length s) (fs .0) (fs .1)) (fs .2)
-      ∙ main-begins (length s) (fs .0) (c .in-Continue-functions .rest .now) (e .1)
-      ∙ closed-shut (length s) (record { functions = fs .0; main = e .0 }) (c .in-Continue-rest .rest .now) (search needs),
+          ∙ then-at (λ fs. mainFrom (length s) (fs .0) (fs .1)) (fs .2)
+          ∙ main-begins (length s) (fs .0) (c .in-Continue-functions .rest .now) (e .1)
+          ∙ closed-shut (length s) (record { functions = fs .0; main = e .0 }) (c .in-Continue-rest .rest .now) (search needs),
       record {
         count-is = sym (f .2);
         functions-are = fs .1;

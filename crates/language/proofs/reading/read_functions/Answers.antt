@@ -27,8 +27,8 @@ returns-in-Break-function c =
     let m : c .args .count - c .loop-i .i ≡ suc (c .args .count - c .loop-i .i - 1) = omega arith in
     record {
       gives =
-        broke AllOutlined (c .from-residual .result) _ (c .from-residual .ensures .1)
-        (inv .4 ∙ ap (λ (k : ℕ). toCome w (inv .1) k rest) m ∙ to-come-fault w (c .args .count - c .loop-i .i - 1) rest (inv .1) (c .in-Break-function .ensures tt .gives));
+          broke AllOutlined (c .from-residual .result) _ (c .from-residual .ensures .1)
+          (inv .4 ∙ ap (λ (k : ℕ). toCome w (inv .1) k rest) m ∙ to-come-fault w (c .args .count - c .loop-i .i - 1) rest (inv .1) (c .in-Break-function .ensures tt .gives));
       shorter = made-from-err (c .from-residual .result) _ (c .from-residual .ensures .0);
     }
 
@@ -43,13 +43,12 @@ loop-i-again c =
     let k = c .args .count - (c .loop-i .i + 1) in
     let m : c .args .count - c .loop-i .i ≡ suc (c .args .count - (c .loop-i .i + 1)) = omega arith in
     let s = function-sound w rest (g .0, rest′) (g .2) in
-    let place : w - length rest ≡ placeAfter fs = omega (arith, inv .5) in
-    (
+    let place : w - length rest ≡ placeAfter fs = omega (arith, inv .5) in (
       simp length-set (inv .0),
       fs ++ (g .0 ∷ []),
       length-push fs (g .0) ∙ ap (λ (n : ℕ). n + 1) (inv .2),
       subst (λ (n : ℕ). AllOutlined (set (c .loop-i .functions) n (c .in-Continue-function .function)) (fs ++ (g .0 ∷ []))) (inv .2)
-      (outlined-more (c .loop-i .functions) fs (c .in-Continue-function .function) (g .0) (inv .3) (subst (λ (n : ℕ). Outlined n (c .in-Continue-function .function) (g .0)) place (g .1)) (omega (arith, inv .2, inv .0))),
+          (outlined-more (c .loop-i .functions) fs (c .in-Continue-function .function) (g .0) (inv .3) (subst (λ (n : ℕ). Outlined n (c .in-Continue-function .function) (g .0)) place (g .1)) (omega (arith, inv .2, inv .0))),
       inv .4 ∙ ap (λ (n : ℕ). toCome w fs n rest) m ∙ to-come-more w k rest rest′ (g .0) fs (g .2),
       omega (arith, inv .5, ap length (s .0), length-append (encodeFunction (g .0)) rest′, ap length (encode-functions-append fs (g .0 ∷ [])), length-append (encodeFunctions fs) (encodeFunctions (g .0 ∷ [])), length-append (encodeFunction (g .0)) []),
     )

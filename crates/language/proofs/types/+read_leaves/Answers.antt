@@ -27,9 +27,9 @@ pub returns-in-Break-first : need.returns-in-Break-first
 returns-in-Break-first t c =
     record {
       gives =
-        broke Counted (c .from-residual .result) _ (c .from-residual .ensures .1)
-        (type-begins (c .args .whole) (c .args .bytes .now) 1 (fork product) (λ rest. refl) (search needs) (search needs)
-        ∙ fork-first (typeFrom (c .args .whole)) product _ (c .in-Break-first .ensures tt .gives));
+          broke Counted (c .from-residual .result) _ (c .from-residual .ensures .1)
+          (type-begins (c .args .whole) (c .args .bytes .now) 1 (fork product) (λ rest. refl) (search needs) (search needs)
+          ∙ fork-first (typeFrom (c .args .whole)) product _ (c .in-Break-first .ensures tt .gives));
       shorter = made-from-err (c .from-residual .result) _ (c .from-residual .ensures .0);
     }
 
@@ -37,9 +37,9 @@ pub returns-in-Break-second : need.returns-in-Break-second
 returns-in-Break-second t c =
     record {
       gives =
-        broke Counted (c .from-residual-in-Break-second .result) _ (c .from-residual-in-Break-second .ensures .1)
-        (type-begins (c .args .whole) (c .args .bytes .now) 1 (fork product) (λ rest. refl) (search needs) (search needs)
-        ∙ fork-second (typeFrom (c .args .whole)) product _ (c .in-Continue-first .ensures tt .gives .2) (c .in-Break-second .ensures tt .gives));
+          broke Counted (c .from-residual-in-Break-second .result) _ (c .from-residual-in-Break-second .ensures .1)
+          (type-begins (c .args .whole) (c .args .bytes .now) 1 (fork product) (λ rest. refl) (search needs) (search needs)
+          ∙ fork-second (typeFrom (c .args .whole)) product _ (c .in-Continue-first .ensures tt .gives .2) (c .in-Break-second .ensures tt .gives));
       shorter = made-from-err (c .from-residual-in-Break-second .result) _ (c .from-residual-in-Break-second .ensures .0);
     }
 
@@ -52,7 +52,7 @@ returns-in-Continue-second t c =
         product (first .0) (second .0),
         cc (first .1, second .1),
         type-begins (c .args .whole) (c .args .bytes .now) 1 (fork product) (λ rest. refl) (search needs) (search needs)
-        ∙ fork-both (typeFrom (c .args .whole)) product _ (first .2) (second .2),
+            ∙ fork-both (typeFrom (c .args .whole)) product _ (first .2) (second .2),
       );
       shorter = omega (arith, c .in-Continue-first .ensures tt .shorter, c .in-Continue-second .ensures tt .shorter);
     }

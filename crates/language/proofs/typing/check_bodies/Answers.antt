@@ -37,8 +37,7 @@ loop-number-again c p enc out =
     let i = c .loop-number .inv p enc out in
     let s = some-left (p .functions) (i .0) (i .1) (c .loop-number .number) (i .2) (i .3) (omega (arith, out .count-is)) in
     let cut = i .2 ∙ ap (λ (x : List Function). i .0 ++ x) (s .2) in
-    let b = c .in-Continue-check-body .ensures tt p (i .0) (s .0) (s .1) enc out cut (sym (i .3)) in
-    (
+    let b = c .in-Continue-check-body .ensures tt p (i .0) (s .0) (s .1) enc out cut (sym (i .3)) in (
       i .0 ++ (s .0 ∷ []),
       s .1,
       cut ∙ sym (append-assoc (i .0) (s .0 ∷ []) (s .1)),

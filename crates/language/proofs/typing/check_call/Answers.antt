@@ -22,10 +22,9 @@ returns-then-not-is c Φ τ (all, n) t =
 
 pub returns : need.returns
 returns c Φ τ (all, n) t =
-    let f = function-at (c .args .functions .now) Φ (c .args .number) all (omega (arith, n)) in
-    (
+    let f = function-at (c .args .functions .now) Φ (c .args .number) all (omega (arith, n)) in (
       f .1 .result,
       f .4 .result-code,
       then-at (λ g. needs-that (sameType τ (g .parameter)) (Mistyped (c .args .place)) (Ok (g .result))) (ap (orFault (NoFunction (c .args .place))) (f .2))
-      ∙ ap (λ (b : Bool). needs-that b (Mistyped (c .args .place)) (Ok (f .1 .result))) (same-coded (c .args .operand) (getD (c .args .functions .now) (c .args .number) noFunction .parameter) τ (f .1 .parameter) (c .is .result) t (f .4 .parameter-code) (c .is .ensures) ∙ c .if-not-is .left),
+          ∙ ap (λ (b : Bool). needs-that b (Mistyped (c .args .place)) (Ok (f .1 .result))) (same-coded (c .args .operand) (getD (c .args .functions .now) (c .args .number) noFunction .parameter) τ (f .1 .parameter) (c .is .result) t (f .4 .parameter-code) (c .is .ensures) ∙ c .if-not-is .left),
     )

@@ -51,8 +51,7 @@ returns c =
     let enc = reading-exact s p .0 (r .1) in
     let m = main-ready s (c .in-Continue-outline .outline) p (c .part-from-main .result .now) enc (r .2) (search needs) (c .part-from-main .ensures) in
     let v = c .in-Continue-value .ensures tt .types (p .functions) [] (p .main) (m .rest) (m .callable) tt (m .part-is) (enc .1 .main-proper) in
-    types-well s (Ok _)
-    (
+    types-well s (Ok _) (
       (p, v .0),
       typed-program s (r .1) ∙ then-at (λ τ. Ok (p, τ)) (bodies-ok p (sym (c .in-Continue-check-bodies .ensures tt p enc (r .2))) ∙ ap (λ (k : ℕ). check (p .functions) [] k (p .main)) (sym (m .place-is)) ∙ v .2),
       record { outline-is = r .2; value-is = v .1 },

@@ -10,11 +10,10 @@ use Rattle.language.proofs.Copies.{copied-more}
 use Rattle.language.proofs.typing.extended.Needs as need
 
 pub loop-i-again : need.loop-i-again
-loop-i-again c =
-    (
-      copied-more (c .loop-i .names) (c .args .scope .now) (c .loop-i .i) noType (omega arith) (c .loop-i-test .taken) (c .loop-i .inv .0),
-      simp length-set (c .loop-i .inv .1),
-    )
+loop-i-again c = (
+  copied-more (c .loop-i .names) (c .args .scope .now) (c .loop-i .i) noType (omega arith) (c .loop-i-test .taken) (c .loop-i .inv .0),
+  simp length-set (c .loop-i .inv .1),
+)
 
 pub returns : need.returns
 returns c =

@@ -38,9 +38,9 @@ returns-in-Break-command t c = record {
 pub returns-in-Break-counted : need.returns-in-Break-counted
 returns-in-Break-counted t c = record {
   measured = λ p Φ following Γ e end enc out well cut n b h calls.
-    let k = c .in-Break-counted .ensures tt in
-    broke-measured end (c .args .so-far) (c .from-residual-in-Break-counted .result) _ (unfoldExpr Φ (bodiesOf Φ) Γ e) (c .from-residual-in-Break-counted .ensures .1)
-    (k .1, omega (arith, k .0, some-size (unfoldExpr Φ (bodiesOf Φ) Γ e)));
+      let k = c .in-Break-counted .ensures tt in
+      broke-measured end (c .args .so-far) (c .from-residual-in-Break-counted .result) _ (unfoldExpr Φ (bodiesOf Φ) Γ e) (c .from-residual-in-Break-counted .ensures .1)
+      (k .1, omega (arith, k .0, some-size (unfoldExpr Φ (bodiesOf Φ) Γ e)));
   shorter = made-from-err (c .from-residual-in-Break-counted .result) _ (c .from-residual-in-Break-counted .ensures .0);
   within = made-from-err (c .from-residual-in-Break-counted .result) _ (c .from-residual-in-Break-counted .ensures .0);
 }
@@ -48,10 +48,10 @@ returns-in-Break-counted t c = record {
 pub returns-in-Flip : need.returns-in-Flip
 returns-in-Flip t c = record {
   measured = λ p Φ following Γ e end enc out well cut n b h calls.
-    let s = simple-is (length (c .args .program .now)) (c .args .bytes .now) (c .in-Continue-command .rest .now) end e (c .in-Continue-command .command) (c .in-Simple .simple) (as-read (c .in-Continue-command .ensures tt .gives)) (c .in-Simple .is) b h in
-    let k = c .in-Continue-counted .ensures tt in
-    let e = tree-is Φ Γ e (c .in-Simple .simple) (s .expr-is) ∙ ap (unfoldSimple (bodiesOf Φ)) (c .in-Flip .is) in
-    (omega (arith, k .1, ap size e), omega (arith, k .2, ap flips e), omega (arith, k .0, k .1), s .rest-is);
+      let s = simple-is (length (c .args .program .now)) (c .args .bytes .now) (c .in-Continue-command .rest .now) end e (c .in-Continue-command .command) (c .in-Simple .simple) (as-read (c .in-Continue-command .ensures tt .gives)) (c .in-Simple .is) b h in
+      let k = c .in-Continue-counted .ensures tt in
+      let e = tree-is Φ Γ e (c .in-Simple .simple) (s .expr-is) ∙ ap (unfoldSimple (bodiesOf Φ)) (c .in-Flip .is) in
+      (omega (arith, k .1, ap size e), omega (arith, k .2, ap flips e), omega (arith, k .0, k .1), s .rest-is);
   shorter = c .in-Continue-command .ensures tt .shorter;
   within = omega (arith, c .in-Continue-counted .ensures tt .1, c .in-Continue-counted .ensures tt .2);
 }
@@ -59,11 +59,11 @@ returns-in-Flip t c = record {
 pub returns-in-rest : need.returns-in-rest
 returns-in-rest t c = record {
   measured = λ p Φ following Γ e end enc out well cut n b h calls.
-    let s = simple-is (length (c .args .program .now)) (c .args .bytes .now) (c .in-Continue-command .rest .now) end e (c .in-Continue-command .command) (c .in-Simple .simple) (as-read (c .in-Continue-command .ensures tt .gives)) (c .in-Simple .is) b h in
-    let k = c .in-Continue-counted .ensures tt in
-    let o = other-simple (bodiesOf Φ) (c .in-Simple .simple) (c .in-rest .not-Flip) (c .in-rest .not-Call) in
-    let e = tree-is Φ Γ e (c .in-Simple .simple) (s .expr-is) in
-    (omega (arith, k .1, ap size e, o .0), omega (arith, k .2, ap flips e, o .1), omega (arith, k .0, k .1), s .rest-is);
+      let s = simple-is (length (c .args .program .now)) (c .args .bytes .now) (c .in-Continue-command .rest .now) end e (c .in-Continue-command .command) (c .in-Simple .simple) (as-read (c .in-Continue-command .ensures tt .gives)) (c .in-Simple .is) b h in
+      let k = c .in-Continue-counted .ensures tt in
+      let o = other-simple (bodiesOf Φ) (c .in-Simple .simple) (c .in-rest .not-Flip) (c .in-rest .not-Call) in
+      let e = tree-is Φ Γ e (c .in-Simple .simple) (s .expr-is) in
+      (omega (arith, k .1, ap size e, o .0), omega (arith, k .2, ap flips e, o .1), omega (arith, k .0, k .1), s .rest-is);
   shorter = c .in-Continue-command .ensures tt .shorter;
   within = omega (arith, c .in-Continue-counted .ensures tt .1, c .in-Continue-counted .ensures tt .2);
 }
@@ -71,9 +71,9 @@ returns-in-rest t c = record {
 pub returns-then-number-below : need.returns-then-number-below
 returns-then-number-below t c = record {
   measured = λ p Φ following Γ e end enc out well cut n b h calls.
-    let s = simple-is (length (c .args .program .now)) (c .args .bytes .now) (c .in-Continue-command .rest .now) end e (c .in-Continue-command .command) (c .in-Simple .simple) (as-read (c .in-Continue-command .ensures tt .gives)) (c .in-Simple .is) b h in
-    let k : c .in-Call .number < c .args .below = subst (CallsBelow (c .args .below)) (s .expr-is ∙ ap plain (c .in-Call .is)) calls in
-    absurd (omega arith);
+      let s = simple-is (length (c .args .program .now)) (c .args .bytes .now) (c .in-Continue-command .rest .now) end e (c .in-Continue-command .command) (c .in-Simple .simple) (as-read (c .in-Continue-command .ensures tt .gives)) (c .in-Simple .is) b h in
+      let k : c .in-Call .number < c .args .below = subst (CallsBelow (c .args .below)) (s .expr-is ∙ ap plain (c .in-Call .is)) calls in
+      absurd (omega arith);
   shorter = tt;
   within = tt;
 }
@@ -87,13 +87,13 @@ measure-requires t c κs =
 pub returns-in-Break-with-body : need.returns-in-Break-with-body
 returns-in-Break-with-body t c = record {
   measured = λ p Φ following Γ e end enc out well cut n b h calls.
-    let s = simple-is (length (c .args .program .now)) (c .args .bytes .now) (c .in-Continue-command .rest .now) end e (c .in-Continue-command .command) (c .in-Simple .simple) (as-read (c .in-Continue-command .ensures tt .gives)) (c .in-Simple .is) b h in
-    let k = c .in-Continue-counted .ensures tt in
-    let tree = tree-is Φ Γ e (c .in-Simple .simple) (s .expr-is) ∙ ap (unfoldSimple (bodiesOf Φ)) (c .in-Call .is) in
-    let r = call-ready (c .args .program .now) (c .args .outline .now) p Φ following (c .in-Call .number) (c .part-from-body .result .now) enc out well cut (omega (arith, n)) (search needs) (c .part-from-body .ensures) in
-    let m = c .in-Break-with-body .ensures tt .measured p (r .before) (r .later) (r .function .parameter ∷ []) (r .function .body) (r .rest) enc out well (r .cut) (r .count) (r .part-is) (r .proper) (r .calls) in
-    broke-measured end (c .args .so-far) (c .from-residual-in-Break-with-body .result) _ (unfoldExpr Φ (bodiesOf Φ) Γ e) (c .from-residual-in-Break-with-body .ensures .1)
-    (m .0, omega (arith, m .1, k .1, ap size tree, ap size (r .tree)));
+      let s = simple-is (length (c .args .program .now)) (c .args .bytes .now) (c .in-Continue-command .rest .now) end e (c .in-Continue-command .command) (c .in-Simple .simple) (as-read (c .in-Continue-command .ensures tt .gives)) (c .in-Simple .is) b h in
+      let k = c .in-Continue-counted .ensures tt in
+      let tree = tree-is Φ Γ e (c .in-Simple .simple) (s .expr-is) ∙ ap (unfoldSimple (bodiesOf Φ)) (c .in-Call .is) in
+      let r = call-ready (c .args .program .now) (c .args .outline .now) p Φ following (c .in-Call .number) (c .part-from-body .result .now) enc out well cut (omega (arith, n)) (search needs) (c .part-from-body .ensures) in
+      let m = c .in-Break-with-body .ensures tt .measured p (r .before) (r .later) (r .function .parameter ∷ []) (r .function .body) (r .rest) enc out well (r .cut) (r .count) (r .part-is) (r .proper) (r .calls) in
+      broke-measured end (c .args .so-far) (c .from-residual-in-Break-with-body .result) _ (unfoldExpr Φ (bodiesOf Φ) Γ e) (c .from-residual-in-Break-with-body .ensures .1)
+      (m .0, omega (arith, m .1, k .1, ap size tree, ap size (r .tree)));
   shorter = made-from-err (c .from-residual-in-Break-with-body .result) _ (c .from-residual-in-Break-with-body .ensures .0);
   within = made-from-err (c .from-residual-in-Break-with-body .result) _ (c .from-residual-in-Break-with-body .ensures .0);
 }
@@ -101,12 +101,12 @@ returns-in-Break-with-body t c = record {
 pub returns-in-Continue-with-body : need.returns-in-Continue-with-body
 returns-in-Continue-with-body t c = record {
   measured = λ p Φ following Γ e end enc out well cut n b h calls.
-    let s = simple-is (length (c .args .program .now)) (c .args .bytes .now) (c .in-Continue-command .rest .now) end e (c .in-Continue-command .command) (c .in-Simple .simple) (as-read (c .in-Continue-command .ensures tt .gives)) (c .in-Simple .is) b h in
-    let k = c .in-Continue-counted .ensures tt in
-    let tree = tree-is Φ Γ e (c .in-Simple .simple) (s .expr-is) ∙ ap (unfoldSimple (bodiesOf Φ)) (c .in-Call .is) in
-    let r = call-ready (c .args .program .now) (c .args .outline .now) p Φ following (c .in-Call .number) (c .part-from-body .result .now) enc out well cut (omega (arith, n)) (search needs) (c .part-from-body .ensures) in
-    let m = c .in-Continue-with-body .ensures tt .measured p (r .before) (r .later) (r .function .parameter ∷ []) (r .function .body) (r .rest) enc out well (r .cut) (r .count) (r .part-is) (r .proper) (r .calls) in
-    (omega (arith, m .0, k .1, ap size tree, ap size (r .tree)), omega (arith, m .1, k .2, ap flips tree, ap flips (r .tree)), m .2, s .rest-is);
+      let s = simple-is (length (c .args .program .now)) (c .args .bytes .now) (c .in-Continue-command .rest .now) end e (c .in-Continue-command .command) (c .in-Simple .simple) (as-read (c .in-Continue-command .ensures tt .gives)) (c .in-Simple .is) b h in
+      let k = c .in-Continue-counted .ensures tt in
+      let tree = tree-is Φ Γ e (c .in-Simple .simple) (s .expr-is) ∙ ap (unfoldSimple (bodiesOf Φ)) (c .in-Call .is) in
+      let r = call-ready (c .args .program .now) (c .args .outline .now) p Φ following (c .in-Call .number) (c .part-from-body .result .now) enc out well cut (omega (arith, n)) (search needs) (c .part-from-body .ensures) in
+      let m = c .in-Continue-with-body .ensures tt .measured p (r .before) (r .later) (r .function .parameter ∷ []) (r .function .body) (r .rest) enc out well (r .cut) (r .count) (r .part-is) (r .proper) (r .calls) in
+      (omega (arith, m .0, k .1, ap size tree, ap size (r .tree)), omega (arith, m .1, k .2, ap flips tree, ap flips (r .tree)), m .2, s .rest-is);
   shorter = c .in-Continue-command .ensures tt .shorter;
   within = c .in-Continue-with-body .ensures tt .within;
 }
@@ -114,11 +114,11 @@ returns-in-Continue-with-body t c = record {
 pub returns-in-Break-with-first : need.returns-in-Break-with-first
 returns-in-Break-with-first t c = record {
   measured = λ p Φ following Γ e end enc out well cut n b h calls.
-    let i = splits (length (c .args .program .now)) (c .args .bytes .now) (c .in-Continue-command .rest .now) end e (c .in-Continue-command .command) (c .pre .part) (as-read (c .in-Continue-command .ensures tt .gives)) (c .in-If .is) b h in
-    let k = c .in-Continue-counted .ensures tt in
-    let m = c .in-Break-with-first .ensures tt .measured p Φ following Γ (i .first) (encodeExpr (i .second) ++ end) enc out well cut n (i .rest-is) (i .first-proper) (i .calls (c .args .below) calls .0) in
-    broke-measured end (c .args .so-far) (c .from-residual-in-Break-with-first .result) _ (unfoldExpr Φ (bodiesOf Φ) Γ e) (c .from-residual-in-Break-with-first .ensures .1)
-    (m .0, omega (arith, m .1, k .1, i .sizes Φ (bodiesOf Φ) Γ));
+      let i = splits (length (c .args .program .now)) (c .args .bytes .now) (c .in-Continue-command .rest .now) end e (c .in-Continue-command .command) (c .pre .part) (as-read (c .in-Continue-command .ensures tt .gives)) (c .in-If .is) b h in
+      let k = c .in-Continue-counted .ensures tt in
+      let m = c .in-Break-with-first .ensures tt .measured p Φ following Γ (i .first) (encodeExpr (i .second) ++ end) enc out well cut n (i .rest-is) (i .first-proper) (i .calls (c .args .below) calls .0) in
+      broke-measured end (c .args .so-far) (c .from-residual-in-Break-with-first .result) _ (unfoldExpr Φ (bodiesOf Φ) Γ e) (c .from-residual-in-Break-with-first .ensures .1)
+      (m .0, omega (arith, m .1, k .1, i .sizes Φ (bodiesOf Φ) Γ));
   shorter = made-from-err (c .from-residual-in-Break-with-first .result) _ (c .from-residual-in-Break-with-first .ensures .0);
   within = made-from-err (c .from-residual-in-Break-with-first .result) _ (c .from-residual-in-Break-with-first .ensures .0);
 }
@@ -126,16 +126,16 @@ returns-in-Break-with-first t c = record {
 pub returns-in-Continue-with-first : need.returns-in-Continue-with-first
 returns-in-Continue-with-first t c = record {
   measured = λ p Φ following Γ e end enc out well cut n b h calls.
-    let i = splits (length (c .args .program .now)) (c .args .bytes .now) (c .in-Continue-command .rest .now) end e (c .in-Continue-command .command) (c .pre .part) (as-read (c .in-Continue-command .ensures tt .gives)) (c .in-If .is) b h in
-    let k = c .in-Continue-counted .ensures tt in
-    let bodies = bodiesOf Φ in
-    let m = c .in-Continue-with-first .ensures tt .measured p Φ following Γ (i .first) (encodeExpr (i .second) ++ end) enc out well cut n (i .rest-is) (i .first-proper) (i .calls (c .args .below) calls .0) in
-    let l = c .measure-in-If-2 .ensures .measured p Φ following (i .scope Φ bodies Γ) (i .second) end enc out well cut n (m .3) (i .second-proper) (i .calls (c .args .below) calls .1) in
-    measured-more end (c .args .so-far) (c .in-Continue-with-first .with-first) (c .measure-in-If-2 .result) (unfoldExpr Φ bodies Γ (i .first)) (unfoldExpr Φ bodies (i .scope Φ bodies Γ) (i .second)) (unfoldExpr Φ bodies Γ e)
-    (omega (arith, m .0, k .1)) (omega (arith, m .1, k .2)) (i .sizes Φ bodies Γ) (i .numbers Φ bodies Γ) l;
+      let i = splits (length (c .args .program .now)) (c .args .bytes .now) (c .in-Continue-command .rest .now) end e (c .in-Continue-command .command) (c .pre .part) (as-read (c .in-Continue-command .ensures tt .gives)) (c .in-If .is) b h in
+      let k = c .in-Continue-counted .ensures tt in
+      let bodies = bodiesOf Φ in
+      let m = c .in-Continue-with-first .ensures tt .measured p Φ following Γ (i .first) (encodeExpr (i .second) ++ end) enc out well cut n (i .rest-is) (i .first-proper) (i .calls (c .args .below) calls .0) in
+      let l = c .measure-in-If-2 .ensures .measured p Φ following (i .scope Φ bodies Γ) (i .second) end enc out well cut n (m .3) (i .second-proper) (i .calls (c .args .below) calls .1) in
+      measured-more end (c .args .so-far) (c .in-Continue-with-first .with-first) (c .measure-in-If-2 .result) (unfoldExpr Φ bodies Γ (i .first)) (unfoldExpr Φ bodies (i .scope Φ bodies Γ) (i .second)) (unfoldExpr Φ bodies Γ e)
+      (omega (arith, m .0, k .1)) (omega (arith, m .1, k .2)) (i .sizes Φ bodies Γ) (i .numbers Φ bodies Γ) l;
   shorter =
-    made-weaker (c .measure-in-If-2 .result) _ _
-    (λ x h. omega (arith, c .in-Continue-with-first .ensures tt .shorter, c .in-Continue-command .ensures tt .shorter))
-    (c .measure-in-If-2 .ensures .shorter);
+      made-weaker (c .measure-in-If-2 .result) _ _
+      (λ x h. omega (arith, c .in-Continue-with-first .ensures tt .shorter, c .in-Continue-command .ensures tt .shorter))
+      (c .measure-in-If-2 .ensures .shorter);
   within = c .measure-in-If-2 .ensures .within;
 }

@@ -68,8 +68,7 @@ returns c =
     let m = main-ready s (c .in-Continue-typed .typed .outline) p (c .part-from-main .result .now) (d .0) out (search needs) (c .part-from-main .ensures) in
     let calls = subst (λ (k : ℕ). CallsBelow k (p .main)) (sym (out .count-is)) (typed-calls (d .1 .main)) in
     let f = c .in-Continue-figures .ensures tt .measured p (p .functions) [] [] (p .main) (m .rest) (d .0) out (well-called p (t .0 .1) (d .1)) (sym (append-nil (p .functions))) (sym (out .count-is)) (m .part-is) (d .0 .1 .main-proper) calls in
-    unfolds-well s (Ok _)
-    (
+    unfolds-well s (Ok _) (
       t .0,
       accepted-typed s (t .1) ∙ within-limits (t .0) (omega (arith, f .0, f .2)) (omega (arith, f .1)),
       record { typed-is = t .2; size-is = omega (arith, f .0); flips-is = omega (arith, f .1) },

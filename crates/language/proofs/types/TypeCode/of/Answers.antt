@@ -7,11 +7,10 @@ use Rattle.language.proofs.Copies.{copied-more}
 use Rattle.language.proofs.types.TypeCode.of.Needs as need
 
 pub loop-i-again : need.loop-i-again
-loop-i-again c =
-    (
-      copied-more (c .loop-i .code) (c .args .bytes .now) (c .loop-i .i) 0 (omega arith) (c .loop-i-test .taken) (c .loop-i .inv .0),
-      simp length-set (c .loop-i .inv .1),
-    )
+loop-i-again c = (
+  copied-more (c .loop-i .code) (c .args .bytes .now) (c .loop-i .i) 0 (omega arith) (c .loop-i-test .taken) (c .loop-i .inv .0),
+  simp length-set (c .loop-i .inv .1),
+)
 
 pub returns : need.returns
 returns c =

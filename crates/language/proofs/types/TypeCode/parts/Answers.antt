@@ -28,8 +28,7 @@ returns c τ h =
     let e = ok-same (g .2) (ap (typeFrom (length (after 1 s))) (p .3) ∙ type-complete (length (after 1 s)) (p .0) (encodeTy (p .1))) in
     let rest : c .in-Ok .second .now ≡ encodeTy (p .1) = ap (λ (x : Ty × List ℕ). x .1) e in
     let n : length (encodeTy (p .0)) ≡ length (after 1 s) - length (c .in-Ok .second .now) - 0 = omega (arith, ap length (p .3), length-append (encodeTy (p .0)) (encodeTy (p .1)), ap length rest) in
-    subst (PartsCoded (Some (c .of .result, c .of-2 .result))) (sym (p .2))
-    (
+    subst (PartsCoded (Some (c .of .result, c .of-2 .result))) (sym (p .2)) (
       c .of .ensures ∙ ap (take (length (after 1 s) - length (c .in-Ok .second .now) - 0)) (p .3) ∙ take-at (encodeTy (p .0)) (encodeTy (p .1)) (length (after 1 s) - length (c .in-Ok .second .now) - 0) n,
       c .of-2 .ensures ∙ rest,
     )
