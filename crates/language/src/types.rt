@@ -6,10 +6,10 @@ ghost use Rattle.language.specs.Reading.{typeFrom};
 ghost use Rattle.language.specs.Syntax.{Ty};
 ghost use Rattle.std.specs.Orderings.{Decides};
 ghost use Rattle.std.specs.Vec.{made};
-ghost use lib.ListN.{length, take, drop};
-ghost use mathlib.Core.List.{_++_};
+ghost use lib.ListN.{length};
 ghost use mathlib.Core.Path.{_≡_};
 use crate::fault::ReadFault;
+use crate::slices::put;
 
 // The most leaves that a type may have.
 pub const MOST_LEAVES: usize = 16;
@@ -66,7 +66,7 @@ impl TypeCode {
     }
 
     // The pair of two types, unless it has too many leaves.
-    pub(crate) fn pair(first: &TypeCode, second: &TypeCode) -> Option<TypeCode>
+    pub fn pair(first: &TypeCode, second: &TypeCode) -> Option<TypeCode>
         ensures { λ r. ⌜ ((σ τ : Ty) → Coded (now (first .entry)) σ → Coded (now (second .entry)) τ → PairCoded r σ τ) ⌝ }
     {
         let (first, second) = (first.as_slice(), second.as_slice());
@@ -83,7 +83,7 @@ impl TypeCode {
     }
 
     // The two parts of a pair.
-    pub(crate) fn parts(&self) -> Option<(TypeCode, TypeCode)>
+    pub fn parts(&self) -> Option<(TypeCode, TypeCode)>
         ensures { λ r. ⌜ ((τ : Ty) → Coded (now (self .entry)) τ → PartsCoded r τ) ⌝ }
     {
         let [1, parts @ ..] = self.as_slice() else {
@@ -95,15 +95,6 @@ impl TypeCode {
         let end = parts.len() - second.len();
         Some((TypeCode::of(&parts[0..end]), TypeCode::of(second)))
     }
-}
-
-// Writes `part` into `bytes`, from an index on.
-fn put(bytes: &mut [u8], from: usize, part: &[u8])
-    requires { ⌜ from + length (now part) ≤ length (now bytes) ⌝ }
-    ensures { λ _. ⌜ now (bytes .exit) ≡ take from (now (bytes .entry)) ++ (now (part .entry) ++ drop (from + length (now (part .entry))) (now (bytes .entry))) ⌝ }
-{
-    let end = from + part.len();
-    bytes[from..end].copy_from_slice(part);
 }
 
 // The number of leaves of the type at the front of `bytes`, the last ones of a program of `whole` bytes, and the bytes after it.

@@ -19,6 +19,7 @@ use crate::fault::TypeFaultFromRead;
 use crate::reading::FunctionOutline;
 use crate::reading::Outline;
 use crate::reading::read;
+use crate::slices::extended;
 use crate::types::TypeCode;
 
 // The most names in scope.
@@ -117,19 +118,6 @@ fn check_simple(
             check_call(functions, number, operand, place)
         }
     }
-}
-
-// The names in scope and one more.
-fn extended(scope: &[TypeCode], name: TypeCode) -> [TypeCode; 32]
-    requires { ⌜ length (now scope) < 32 ⌝ }
-    ensures { λ r. ⌜ take (length (now (scope .entry)) + 1) r ≡ now (scope .entry) ++ (name ∷ []) ⌝ }
-{
-    let mut names = [TypeCode::BOOL; 32];
-    for (i, known) in scope.iter().enumerate() {
-        names[i] = *known;
-    }
-    names[scope.len()] = name;
-    names
 }
 
 // The type of the expression at the front of `bytes`, the last ones of a program of `whole` bytes, and the bytes after it.

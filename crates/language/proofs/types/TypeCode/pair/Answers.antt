@@ -25,7 +25,7 @@ pub returns : need.returns
 returns c σ τ h h′ =
     let p = c .as-slice-first .ensures .bytes ∙ h in
     let q = c .as-slice-second .ensures .bytes ∙ h′ in (
-      written (c .as-slice-first .result .now) (c .as-slice-second .result .now) 1 _ (c .put .last .bytes) (c .put-2 .last .bytes) (c .put .ensures) (c .put-2 .ensures)
+      written (c .as-slice-first .result .now) (c .as-slice-second .result .now) 1 _ (c .put .last .items) (c .put-2 .last .items) (c .put .ensures) (c .put-2 .ensures)
           ∙ ap (λ (x : List ℕ). 1 ∷ x) (ap (λ (x : List ℕ). x ++ c .as-slice-second .result .now) p ∙ ap (λ (x : List ℕ). encodeTy σ ++ x) q),
       omega (arith, ap length p, ap length q, type-bytes σ, type-bytes τ),
     )
