@@ -60,7 +60,8 @@ impl TypeCode {
 
     // The number of its leaves: a type has one byte for each leaf, and one for each pair.
     pub fn leaves(&self) -> usize
-        ensures { λ r. ⌜ ((τ : Ty) → Coded (now (self .entry)) τ → Counted r τ) ⌝ }
+        ensures counted { λ r. ⌜ ((τ : Ty) → Coded (now (self .entry)) τ → Counted r τ) ⌝ }
+        ensures few { λ r. ⌜ r ≤ 16 ⌝ }
     {
         (self.as_slice().len() + 1) / 2
     }

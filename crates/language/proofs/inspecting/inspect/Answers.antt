@@ -19,6 +19,6 @@ returns c =
         functions-are = b .typed-is .outline-is .count-is;
         size-is = b .size-is;
         flips-are = b .flips-is;
-        leaves-are = c .leaves .ensures (u .0 .1) (b .typed-is .value-is);
+        leaves-are = c .leaves .ensures .counted (u .0 .1) (b .typed-is .value-is);
       },
     )

@@ -9,10 +9,9 @@ use Rattle.language.proofs.slices.extended.Needs as need
 
 pub loop-i-again : need.loop-i-again
 loop-i-again g c =
-    let x = c .index-scope-i .result in
-    (
+    let x = c .index-scope-i .result in (
       ap (λ y. take (c .loop-i .i + 1) (set (c .loop-i .names) (c .loop-i .i) y)) (c .index-scope-i .is)
-      ∙ copied-more (c .loop-i .names) (c .args .scope .now) (c .loop-i .i) x (omega arith) (c .loop-i-test .taken) (c .loop-i .inv .0),
+          ∙ copied-more (c .loop-i .names) (c .args .scope .now) (c .loop-i .i) x (omega arith) (c .loop-i-test .taken) (c .loop-i .inv .0),
       simp length-set (c .loop-i .inv .1),
     )
 

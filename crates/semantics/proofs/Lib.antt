@@ -1,0 +1,14 @@
+pub mod Sums
+pub mod Walks
+pub mod Totals
+pub mod Plain
+pub mod Unfolded
+pub mod Patterns
+pub mod Facts
+pub mod Forming
+pub mod Formulas
+pub mod Every
+pub mod Passing
+pub mod Flips
+pub mod Theorems
+pub mod Examples

@@ -1,0 +1,9 @@
+pub mod Values
+pub mod Typing
+pub mod Running
+pub mod Patterns
+pub mod Meaning
+pub mod Formulas
+pub mod Facts
+pub mod Theorems
+pub mod Examples
