@@ -1,4 +1,6 @@
 // Inspects a program: reads its bytes from standard input, and prints its figures or the refusal.
+#![tactic(auto)]
+
 ghost use Rattle.std.specs.Prelude.{◌≤◌, length, IfOk};
 
 use language::fault::Fault;

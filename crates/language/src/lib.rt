@@ -1,4 +1,6 @@
 // Programs as bytes: reading, typing and unfolding, and the inspection that goes through all three.
+#![tactic(auto)]
+
 ghost use Rattle.language.specs.Cases.{CasesRight};
 
 pub mod command;

@@ -1,4 +1,6 @@
 // Programs at and just past each limit, with what inspecting them finds: a line a case.
+#![tactic(auto)]
+
 use language::fault::Fault;
 use language::inspecting::inspect;
 use std::alloc::{AllocError, Global};
