@@ -2,14 +2,14 @@ use Rattle.std.proofs.Common.{◌≡◌, Ok, Err, sym, refl, ap, ◌∙◌}
 use Rattle.language.proofs.AcceptedBytes.{inspects_well, broke_inspecting}
 use Rattle.language.proofs.inspecting.inspect.Goals as goal
 
-pub returns-in-err-unfolded : goal.returns-in-err-unfolded
-returns-in-err-unfolded c =
-    inspects_well c.args.program.now c.from-residual.result
-    (broke_inspecting c.from-residual.result _ c.from-residual.ensures.1 c.in-err-unfolded.ensures.exact)
+pub returns-in_err-unfolded : goal.returns-in_err-unfolded
+returns-in_err-unfolded c =
+    inspects_well c.args.program.now c.from_residual.result
+    (broke_inspecting c.from_residual.result _ c.from_residual.ensures.1 c.in_err-unfolded.ensures.exact)
 
 pub returns : goal.returns
 returns c =
-    let u = c.in-ok-unfolded.ensures.exact in
+    let u = c.in_ok-unfolded.ensures.exact in
     let b = u.2 in
     inspects_well c.args.program.now (Ok _) (
       u.0,

@@ -8,54 +8,54 @@ use Rattle.language.proofs.Encoding.{functions_sound}
 use Rattle.language.proofs.ReadingPrograms.{broke_reads, reads_well, program_begins, main_begins, closed_open, closed_shut}
 use Rattle.language.proofs.reading.read.Goals as goal
 
-pub returns-in-err-functions : goal.returns-in-err-functions
-returns-in-err-functions c =
-    reads_well c.args.program.now c.from-residual.result (broke_reads c.from-residual.result _ c.from-residual.ensures.1
-    (program_begins c.args.program.now (search rules) (search rules) (search rules) ∙ then_err _ c.in-err-functions.ensures.gives))
+pub returns-in_err-functions : goal.returns-in_err-functions
+returns-in_err-functions c =
+    reads_well c.args.program.now c.from_residual.result (broke_reads c.from_residual.result _ c.from_residual.ensures.1
+    (program_begins c.args.program.now (search rules) (search rules) (search rules) ∙ then_err _ c.in_err-functions.ensures.gives))
 
-pub returns-in-err-rest : goal.returns-in-err-rest
-returns-in-err-rest c =
-    reads_well c.args.program.now c.from-residual-in-err-rest.result (broke_reads c.from-residual-in-err-rest.result _ c.from-residual-in-err-rest.ensures.1
+pub returns-in_err-rest : goal.returns-in_err-rest
+returns-in_err-rest c =
+    reads_well c.args.program.now c.from_residual-in_err-rest.result (broke_reads c.from_residual-in_err-rest.result _ c.from_residual-in_err-rest.ensures.1
     (program_begins c.args.program.now (search rules) (search rules) (search rules)
-    ∙ then_at (λ fs. main_from (length c.args.program.now) fs.0 fs.1) c.in-ok-functions.ensures.gives.2
-    ∙ then_err _ c.in-err-rest.ensures.gives))
+    ∙ then_at (λ fs. main_from (length c.args.program.now) fs.0 fs.1) c.in_ok-functions.ensures.gives.2
+    ∙ then_err _ c.in_err-rest.ensures.gives))
 
-pub returns-then-not-is-empty : goal.returns-then-not-is-empty
-returns-then-not-is-empty c =
+pub returns-then-not-is_empty : goal.returns-then-not-is_empty
+returns-then-not-is_empty c =
     let w = length c.args.program.now in
-    let fs = c.in-ok-functions.ensures.gives in
-    let e = c.in-ok-rest.ensures.gives in
-    reads_well c.args.program.now (Err (Trailing (w - length c.in-ok-rest.rest.now)))
+    let fs = c.in_ok-functions.ensures.gives in
+    let e = c.in_ok-rest.ensures.gives in
+    reads_well c.args.program.now (Err (Trailing (w - length c.in_ok-rest.rest.now)))
     (program_begins c.args.program.now (search rules) (search rules) (search rules)
     ∙ then_at (λ fs. main_from w fs.0 fs.1) fs.2
-    ∙ main_begins w fs.0 c.in-ok-functions.rest.now e.1
-    ∙ closed_open w (record { functions = fs.0; main = e.0 }) c.in-ok-rest.rest.now (search rules))
+    ∙ main_begins w fs.0 c.in_ok-functions.rest.now e.1
+    ∙ closed_open w (record { functions = fs.0; main = e.0 }) c.in_ok-rest.rest.now (search rules))
 
 pub returns : goal.returns
 returns c =
     let s = c.args.program.now in
-    let fs = c.in-ok-functions.ensures.gives in
-    let e = c.in-ok-rest.ensures.gives in
+    let fs = c.in_ok-functions.ensures.gives in
+    let e = c.in_ok-rest.ensures.gives in
     let some : 0 < length s = search rules in
-    let f = functions_sound (length s) (get_or s 0 0) (after 1 s) (fs.0, c.in-ok-functions.rest.now) fs.2 in
+    let f = functions_sound (length s) (get_or s 0 0) (after 1 s) (fs.0, c.in_ok-functions.rest.now) fs.2 in
     reads_well s (Ok _) (
       record { functions = fs.0; main = e.0 },
       program_begins s (search rules) (search rules) (search rules)
           ∙ then_at (λ fs. main_from (length s) fs.0 fs.1) fs.2
-          ∙ main_begins (length s) fs.0 c.in-ok-functions.rest.now e.1
-          ∙ closed_shut (length s) (record { functions = fs.0; main = e.0 }) c.in-ok-rest.rest.now (search rules),
+          ∙ main_begins (length s) fs.0 c.in_ok-functions.rest.now e.1
+          ∙ closed_shut (length s) (record { functions = fs.0; main = e.0 }) c.in_ok-rest.rest.now (search rules),
       record {
         count_is = sym f.2;
         functions_are = fs.1;
-        main_is = omega (arith, ap length f.0, length-append (encode_functions fs.0) c.in-ok-functions.rest.now, length_after 1 s, some);
+        main_is = omega (arith, ap length f.0, length-append (encode_functions fs.0) c.in_ok-functions.rest.now, length_after 1 s, some);
       },
     )
 
-pub returns-then-program-gt-MOST-BYTES : goal.returns-then-program-gt-MOST-BYTES
-returns-then-program-gt-MOST-BYTES c = reads_well c.args.program.now (Err TooLong) (search rules)
+pub returns-then-program-gt-MOST_BYTES : goal.returns-then-program-gt-MOST_BYTES
+returns-then-program-gt-MOST_BYTES c = reads_well c.args.program.now (Err TooLong) (search rules)
 
-pub returns-in-default : goal.returns-in-default
-returns-in-default c = reads_well c.args.program.now (Err (Ends (length c.args.program.now))) (search rules)
+pub returns-in_default : goal.returns-in_default
+returns-in_default c = reads_well c.args.program.now (Err (Ends (length c.args.program.now))) (search rules)
 
-pub returns-then-count-gt-MOST-FUNCTIONS : goal.returns-then-count-gt-MOST-FUNCTIONS
-returns-then-count-gt-MOST-FUNCTIONS c = reads_well c.args.program.now (Err (Unknown 0)) (search rules)
+pub returns-then-count-gt-MOST_FUNCTIONS : goal.returns-then-count-gt-MOST_FUNCTIONS
+returns-then-count-gt-MOST_FUNCTIONS c = reads_well c.args.program.now (Err (Unknown 0)) (search rules)

@@ -7,11 +7,11 @@ pub returns : goal.returns
 returns c =
     let w = c.args.whole in
     let s = c.args.bytes.now in
-    let p = c.in-ok-parameter.ensures.gives in
-    let q = c.in-ok-result.ensures.gives in
-    let e = c.in-ok-rest.ensures.gives in
-    let s' = c.in-ok-parameter.rest.now in
-    let s'' = c.in-ok-result.rest.now in
+    let p = c.in_ok-parameter.ensures.gives in
+    let q = c.in_ok-result.ensures.gives in
+    let e = c.in_ok-rest.ensures.gives in
+    let s' = c.in_ok-parameter.rest.now in
+    let s'' = c.in_ok-result.rest.now in
     let first = type_sound w s (p.0, s') (narrow_ok w s p.2).0 in
     let second = type_sound w s' (q.0, s'') (narrow_ok w s' q.2).0 in
     record {
@@ -24,5 +24,5 @@ returns c =
         },
         function_parts w s p.2 q.2 e.1,
       );
-      shorter = omega (arith, c.in-ok-parameter.ensures.shorter, c.in-ok-result.ensures.shorter, c.in-ok-rest.ensures.shorter);
+      shorter = omega (arith, c.in_ok-parameter.ensures.shorter, c.in_ok-result.ensures.shorter, c.in_ok-rest.ensures.shorter);
     }

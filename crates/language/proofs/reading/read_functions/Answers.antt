@@ -14,17 +14,17 @@ use Rattle.language.proofs.reading.read_functions.Goals as goal
 pub loop-i-init : goal.loop-i-init
 loop-i-init c = (search rules, [], refl, (λ before g following e. absurd (no_cut before g following e)), to_come_first c.args.whole c.args.count c.args.bytes.now ∙ ap (λ (k : ℕ). to_come c.args.whole [] k c.args.bytes.now) (sym (sub-zero c.args.count)), omega arith)
 
-pub returns-in-err-function : goal.returns-in-err-function
-returns-in-err-function c =
+pub returns-in_err-function : goal.returns-in_err-function
+returns-in_err-function c =
     let w = c.args.whole in
     let rest = c.loop-i.rest.now in
     let inv = c.loop-i.invariant in
     let m : c.args.count - c.loop-i.i ≡ suc (c.args.count - c.loop-i.i - 1) = omega arith in
     record {
       gives =
-          broke AllOutlined c.from-residual.result _ c.from-residual.ensures.1
-          (inv.4 ∙ ap (λ (k : ℕ). to_come w inv.1 k rest) m ∙ to_come_fault w (c.args.count - c.loop-i.i - 1) rest inv.1 c.in-err-function.ensures.gives);
-      shorter = IfOk-from_err c.from-residual.result _ c.from-residual.ensures.0;
+          broke AllOutlined c.from_residual.result _ c.from_residual.ensures.1
+          (inv.4 ∙ ap (λ (k : ℕ). to_come w inv.1 k rest) m ∙ to_come_fault w (c.args.count - c.loop-i.i - 1) rest inv.1 c.in_err-function.ensures.gives);
+      shorter = IfOk-from_err c.from_residual.result _ c.from_residual.ensures.0;
     }
 
 pub loop-i-preserved : goal.loop-i-preserved
@@ -33,8 +33,8 @@ loop-i-preserved c =
     let rest = c.loop-i.rest.now in
     let inv = c.loop-i.invariant in
     let fs = inv.1 in
-    let g = c.in-ok-function.ensures.gives in
-    let rest' = c.in-ok-function.following.now in
+    let g = c.in_ok-function.ensures.gives in
+    let rest' = c.in_ok-function.following.now in
     let k = c.args.count - (c.loop-i.i + 1) in
     let m : c.args.count - c.loop-i.i ≡ suc (c.args.count - (c.loop-i.i + 1)) = omega arith in
     let s = function_sound w rest (g.0, rest') g.2 in
@@ -42,8 +42,8 @@ loop-i-preserved c =
       simp length-set inv.0,
       fs ++ (g.0 ∷ []),
       length_push fs g.0 ∙ ap (λ (n : ℕ). n + 1) inv.2,
-      subst (λ (n : ℕ). AllOutlined (set c.loop-i.functions n c.in-ok-function.function) (fs ++ (g.0 ∷ []))) inv.2
-          (outlined_more c.loop-i.functions fs c.in-ok-function.function g.0 inv.3 (subst (λ (n : ℕ). Outlined n c.in-ok-function.function g.0) place g.1) (omega (arith, inv.2, inv.0))),
+      subst (λ (n : ℕ). AllOutlined (set c.loop-i.functions n c.in_ok-function.function) (fs ++ (g.0 ∷ []))) inv.2
+          (outlined_more c.loop-i.functions fs c.in_ok-function.function g.0 inv.3 (subst (λ (n : ℕ). Outlined n c.in_ok-function.function g.0) place g.1) (omega (arith, inv.2, inv.0))),
       inv.4 ∙ ap (λ (n : ℕ). to_come w fs n rest) m ∙ to_come_more w k rest rest' g.0 fs g.2,
       omega (arith, inv.5, ap length s.0, length-append (encode_function g.0) rest', ap length (encode_functions_append fs (g.0 ∷ [])), length-append (encode_functions fs) (encode_functions (g.0 ∷ [])), length-append (encode_function g.0) []),
     )

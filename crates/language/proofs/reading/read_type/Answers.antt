@@ -17,19 +17,19 @@ front w s rest τ e =
 
 pub of-requires : goal.of-requires
 of-requires c =
-    let g = c.in-ok-leaves.ensures.gives in
-    let e = front c.args.whole c.args.bytes.now c.in-ok-leaves.rest.now g.0 g.2 in
+    let g = c.in_ok-leaves.ensures.gives in
+    let e = front c.args.whole c.args.bytes.now c.in_ok-leaves.rest.now g.0 g.2 in
     omega (arith, ap length e, type_length g.0, g.1)
 
 pub returns : goal.returns
 returns c =
-    let g = c.in-ok-leaves.ensures.gives in
+    let g = c.in_ok-leaves.ensures.gives in
     let n : leaves g.0 ≤ 16 = omega (arith, g.1) in
     record {
       gives = (
         g.0,
-        c.of.ensures ∙ front c.args.whole c.args.bytes.now c.in-ok-leaves.rest.now g.0 g.2,
-        then_at _ g.2 ∙ ap (λ (b : Bool). cond b (Ok (g.0, c.in-ok-leaves.rest.now)) (Err (TooWide (c.args.whole - length c.args.bytes.now)))) (le-leb (leaves g.0) 16 n),
+        c.of.ensures ∙ front c.args.whole c.args.bytes.now c.in_ok-leaves.rest.now g.0 g.2,
+        then_at _ g.2 ∙ ap (λ (b : Bool). cond b (Ok (g.0, c.in_ok-leaves.rest.now)) (Err (TooWide (c.args.whole - length c.args.bytes.now)))) (le-leb (leaves g.0) 16 n),
       );
       shorter = type_short c.args.whole c.args.bytes.now _ g.2;
     }

@@ -7,5 +7,5 @@ returns g c =
     let s = c.args.items.now in
     let k = c.args.from in
     ap (λ x. take k s ++ x)
-    (ap (λ x. c.copy-from-slice.new.self ++ x) (Post-is k (k + length c.args.part.now) s (omega arith))
-    ∙ ap (λ x. x ++ drop (k + length c.args.part.now) s) c.copy-from-slice.ensures.after)
+    (ap (λ x. c.copy_from_slice.new.self ++ x) (Post-is k (k + length c.args.part.now) s (omega arith))
+    ∙ ap (λ x. x ++ drop (k + length c.args.part.now) s) c.copy_from_slice.ensures.after)

@@ -15,14 +15,14 @@ some_left : (fs before following : List Function) (n : ℕ) → fs ≡ before ++
 some_left fs before [] n e l h = absurd (omega (arith, ap length e, length-append before []))
 some_left fs before (f ∷ later) n e l h = (f, later, refl)
 
-pub returns-in-err-check-body : goal.returns-in-err-check-body
+pub returns-in_err-check_body : goal.returns-in_err-check_body
 unfolding checked_bodies
-returns-in-err-check-body c p enc out =
-    let e = err_from_is_err_and c.from-residual.result c.from-residual.ensures.1 in
+returns-in_err-check_body c p enc out =
+    let e = err_from_is_err_and c.from_residual.result c.from_residual.ensures.1 in
     let i = c.loop-number.invariant p enc out in
     let s = some_left p.functions i.0 i.1 c.loop-number.number i.2 i.3 (omega (arith, out.count_is)) in
     let cut = i.2 ∙ ap (λ (x : List Function). i.0 ++ x) s.2 in
-    let b = c.in-err-check-body.ensures p i.0 s.0 s.1 enc out cut (sym i.3) in
+    let b = c.in_err-check_body.ensures p i.0 s.0 s.1 enc out cut (sym i.3) in
     e.1 ∙ ap Err e.2 ∙ sym (i.4 ∙ ap (checked_bodies i.0) s.2 ∙ then_err _ (sym b))
 
 pub loop-number-preserved : goal.loop-number-preserved
@@ -31,7 +31,7 @@ loop-number-preserved c p enc out =
     let i = c.loop-number.invariant p enc out in
     let s = some_left p.functions i.0 i.1 c.loop-number.number i.2 i.3 (omega (arith, out.count_is)) in
     let cut = i.2 ∙ ap (λ (x : List Function). i.0 ++ x) s.2 in
-    let b = c.in-ok-check-body.ensures p i.0 s.0 s.1 enc out cut (sym i.3) in (
+    let b = c.in_ok-check_body.ensures p i.0 s.0 s.1 enc out cut (sym i.3) in (
       i.0 ++ (s.0 ∷ []),
       s.1,
       cut ∙ sym (append_assoc i.0 (s.0 ∷ []) s.1),

@@ -8,45 +8,45 @@ use Rattle.language.proofs.Lies.{main_ready}
 use Rattle.language.proofs.TypedBytes.{types_well, broke_typed, typed_fault, typed_program, bodies_fault, bodies_ok}
 use Rattle.language.proofs.typing.check_types.Goals as goal
 
-pub returns-in-err-outline : goal.returns-in-err-outline
-returns-in-err-outline c =
-    types_well c.args.program.now c.from-residual.result
-    (broke_typed c.from-residual.result Reading _ c.from-residual.ensures.1 (typed_fault c.args.program.now c.in-err-outline.ensures.exact))
+pub returns-in_err-outline : goal.returns-in_err-outline
+returns-in_err-outline c =
+    types_well c.args.program.now c.from_residual.result
+    (broke_typed c.from_residual.result Reading _ c.from_residual.ensures.1 (typed_fault c.args.program.now c.in_err-outline.ensures.exact))
 
-pub returns-in-err-check-bodies : goal.returns-in-err-check-bodies
-returns-in-err-check-bodies c =
+pub returns-in_err-check_bodies : goal.returns-in_err-check_bodies
+returns-in_err-check_bodies c =
     let s = c.args.program.now in
-    let r = c.in-ok-outline.ensures.exact in
-    let b = c.in-err-check-bodies.ensures r.0 ((reading_exact s r.0).0 r.1) r.2 in
-    types_well s c.from-residual-in-err-check-bodies.result
-    (broke_typed c.from-residual-in-err-check-bodies.result (λ (f : TypeFault). f) _ c.from-residual-in-err-check-bodies.ensures.1
+    let r = c.in_ok-outline.ensures.exact in
+    let b = c.in_err-check_bodies.ensures r.0 ((reading_exact s r.0).0 r.1) r.2 in
+    types_well s c.from_residual-in_err-check_bodies.result
+    (broke_typed c.from_residual-in_err-check_bodies.result (λ (f : TypeFault). f) _ c.from_residual-in_err-check_bodies.ensures.1
     (typed_program s r.1 ∙ then_err _ (bodies_fault r.0 (sym b))))
 
-pub check-expression-requires : goal.check-expression-requires
-check-expression-requires c = omega (arith, ap length c.part-from-main.ensures, length-drop c.in-ok-outline.outline.main c.args.program.now)
+pub check_expression-requires : goal.check_expression-requires
+check_expression-requires c = omega (arith, ap length c.part_from-main.ensures, length-drop c.in_ok-outline.outline.main c.args.program.now)
 
-pub returns-in-err-value : goal.returns-in-err-value
-returns-in-err-value c =
+pub returns-in_err-value : goal.returns-in_err-value
+returns-in_err-value c =
     let s = c.args.program.now in
-    let r = c.in-ok-outline.ensures.exact in
+    let r = c.in_ok-outline.ensures.exact in
     let p = r.0 in
     let enc = (reading_exact s p).0 r.1 in
-    let m = main_ready s c.in-ok-outline.outline p c.part-from-main.result.now enc r.2 (search rules) c.part-from-main.ensures in
-    let v = c.in-err-value.ensures.types p.functions [] p.main m.rest m.callable tt m.part_is enc.1.main_proper in
-    types_well s c.from-residual-in-err-value.result
-    (broke_typed c.from-residual-in-err-value.result (λ (f : TypeFault). f) _ c.from-residual-in-err-value.ensures.1
-    (typed_program s r.1 ∙ then_err _ (bodies_ok p (sym (c.in-ok-check-bodies.ensures p enc r.2)) ∙ ap (λ (k : ℕ). check p.functions [] k p.main) (sym m.place_is) ∙ v)))
+    let m = main_ready s c.in_ok-outline.outline p c.part_from-main.result.now enc r.2 (search rules) c.part_from-main.ensures in
+    let v = c.in_err-value.ensures.types p.functions [] p.main m.rest m.callable tt m.part_is enc.1.main_proper in
+    types_well s c.from_residual-in_err-value.result
+    (broke_typed c.from_residual-in_err-value.result (λ (f : TypeFault). f) _ c.from_residual-in_err-value.ensures.1
+    (typed_program s r.1 ∙ then_err _ (bodies_ok p (sym (c.in_ok-check_bodies.ensures p enc r.2)) ∙ ap (λ (k : ℕ). check p.functions [] k p.main) (sym m.place_is) ∙ v)))
 
 pub returns : goal.returns
 returns c =
     let s = c.args.program.now in
-    let r = c.in-ok-outline.ensures.exact in
+    let r = c.in_ok-outline.ensures.exact in
     let p = r.0 in
     let enc = (reading_exact s p).0 r.1 in
-    let m = main_ready s c.in-ok-outline.outline p c.part-from-main.result.now enc r.2 (search rules) c.part-from-main.ensures in
-    let v = c.in-ok-value.ensures.types p.functions [] p.main m.rest m.callable tt m.part_is enc.1.main_proper in
+    let m = main_ready s c.in_ok-outline.outline p c.part_from-main.result.now enc r.2 (search rules) c.part_from-main.ensures in
+    let v = c.in_ok-value.ensures.types p.functions [] p.main m.rest m.callable tt m.part_is enc.1.main_proper in
     types_well s (Ok _) (
       (p, v.0),
-      typed_program s r.1 ∙ then_at (λ τ. Ok (p, τ)) (bodies_ok p (sym (c.in-ok-check-bodies.ensures p enc r.2)) ∙ ap (λ (k : ℕ). check p.functions [] k p.main) (sym m.place_is) ∙ v.2),
+      typed_program s r.1 ∙ then_at (λ τ. Ok (p, τ)) (bodies_ok p (sym (c.in_ok-check_bodies.ensures p enc r.2)) ∙ ap (λ (k : ℕ). check p.functions [] k p.main) (sym m.place_is) ∙ v.2),
       record { outline_is = r.2; value_is = v.1 },
     )

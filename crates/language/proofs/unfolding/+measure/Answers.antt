@@ -22,50 +22,50 @@ simple_is w bytes rest end e x s g i b h = simple_at w bytes rest end e s (g ∙
 tree_is : (Φ : List Function) (Γ : List Ty) (e : Expr) (s : Simple) → e ≡ plain s → unfold_expr Φ (bodies_of Φ) Γ e ≡ unfold_simple (bodies_of Φ) s
 tree_is Φ Γ e s i = ap (unfold_expr Φ (bodies_of Φ) Γ) i ∙ simple_tree Φ (bodies_of Φ) Γ s
 
-pub returns-in-err-command : goal.returns-in-err-command
-returns-in-err-command t c = record {
-  measured = λ p Φ following Γ e end enc out well cut n b h calls. absurd (head_there (length c.args.program.now) c.args.bytes.now end e b h c.in-err-command.ensures.gives);
-  shorter = IfOk-from_err c.from-residual.result _ c.from-residual.ensures.0;
-  within = IfOk-from_err c.from-residual.result _ c.from-residual.ensures.0;
+pub returns-in_err-command : goal.returns-in_err-command
+returns-in_err-command t c = record {
+  measured = λ p Φ following Γ e end enc out well cut n b h calls. absurd (head_there (length c.args.program.now) c.args.bytes.now end e b h c.in_err-command.ensures.gives);
+  shorter = IfOk-from_err c.from_residual.result _ c.from_residual.ensures.0;
+  within = IfOk-from_err c.from_residual.result _ c.from_residual.ensures.0;
 }
 
-pub returns-in-err-counted : goal.returns-in-err-counted
-returns-in-err-counted t c = record {
+pub returns-in_err-counted : goal.returns-in_err-counted
+returns-in_err-counted t c = record {
   measured = λ p Φ following Γ e end enc out well cut n b h calls.
-      let k = c.in-err-counted.ensures in
-      broke_measured end c.args.so-far c.from-residual-in-err-counted.result _ (unfold_expr Φ (bodies_of Φ) Γ e) c.from-residual-in-err-counted.ensures.1
+      let k = c.in_err-counted.ensures in
+      broke_measured end c.args.so_far c.from_residual-in_err-counted.result _ (unfold_expr Φ (bodies_of Φ) Γ e) c.from_residual-in_err-counted.ensures.1
       (k.1, omega (arith, k.0, some_size (unfold_expr Φ (bodies_of Φ) Γ e)));
-  shorter = IfOk-from_err c.from-residual-in-err-counted.result _ c.from-residual-in-err-counted.ensures.0;
-  within = IfOk-from_err c.from-residual-in-err-counted.result _ c.from-residual-in-err-counted.ensures.0;
+  shorter = IfOk-from_err c.from_residual-in_err-counted.result _ c.from_residual-in_err-counted.ensures.0;
+  within = IfOk-from_err c.from_residual-in_err-counted.result _ c.from_residual-in_err-counted.ensures.0;
 }
 
 pub returns-in-Flip : goal.returns-in-Flip
 returns-in-Flip t c = record {
   measured = λ p Φ following Γ e end enc out well cut n b h calls.
-      let s = simple_is (length c.args.program.now) c.args.bytes.now c.in-ok-command.rest.now end e c.in-ok-command.command c.in-Simple.simple (as_read c.in-ok-command.ensures.gives) c.in-Simple.is b h in
-      let k = c.in-ok-counted.ensures in
+      let s = simple_is (length c.args.program.now) c.args.bytes.now c.in_ok-command.rest.now end e c.in_ok-command.command c.in-Simple.simple (as_read c.in_ok-command.ensures.gives) c.in-Simple.is b h in
+      let k = c.in_ok-counted.ensures in
       let e = tree_is Φ Γ e c.in-Simple.simple s.expr_is ∙ ap (unfold_simple (bodies_of Φ)) c.in-Flip.is in
       (omega (arith, k.1, ap size e), omega (arith, k.2, ap flips e), omega (arith, k.0, k.1), s.rest_is);
-  shorter = c.in-ok-command.ensures.shorter;
-  within = omega (arith, c.in-ok-counted.ensures.1, c.in-ok-counted.ensures.2);
+  shorter = c.in_ok-command.ensures.shorter;
+  within = omega (arith, c.in_ok-counted.ensures.1, c.in_ok-counted.ensures.2);
 }
 
-pub returns-in-default : goal.returns-in-default
-returns-in-default t c = record {
+pub returns-in_default : goal.returns-in_default
+returns-in_default t c = record {
   measured = λ p Φ following Γ e end enc out well cut n b h calls.
-      let s = simple_is (length c.args.program.now) c.args.bytes.now c.in-ok-command.rest.now end e c.in-ok-command.command c.in-Simple.simple (as_read c.in-ok-command.ensures.gives) c.in-Simple.is b h in
-      let k = c.in-ok-counted.ensures in
-      let o = other_simple (bodies_of Φ) c.in-Simple.simple c.in-default.not-Flip c.in-default.not-Call in
+      let s = simple_is (length c.args.program.now) c.args.bytes.now c.in_ok-command.rest.now end e c.in_ok-command.command c.in-Simple.simple (as_read c.in_ok-command.ensures.gives) c.in-Simple.is b h in
+      let k = c.in_ok-counted.ensures in
+      let o = other_simple (bodies_of Φ) c.in-Simple.simple c.in_default.not-Flip c.in_default.not-Call in
       let e = tree_is Φ Γ e c.in-Simple.simple s.expr_is in
       (omega (arith, k.1, ap size e, o.0), omega (arith, k.2, ap flips e, o.1), omega (arith, k.0, k.1), s.rest_is);
-  shorter = c.in-ok-command.ensures.shorter;
-  within = omega (arith, c.in-ok-counted.ensures.1, c.in-ok-counted.ensures.2);
+  shorter = c.in_ok-command.ensures.shorter;
+  within = omega (arith, c.in_ok-counted.ensures.1, c.in_ok-counted.ensures.2);
 }
 
 pub returns-then-number-below : goal.returns-then-number-below
 returns-then-number-below t c = record {
   measured = λ p Φ following Γ e end enc out well cut n b h calls.
-      let s = simple_is (length c.args.program.now) c.args.bytes.now c.in-ok-command.rest.now end e c.in-ok-command.command c.in-Simple.simple (as_read c.in-ok-command.ensures.gives) c.in-Simple.is b h in
+      let s = simple_is (length c.args.program.now) c.args.bytes.now c.in_ok-command.rest.now end e c.in_ok-command.command c.in-Simple.simple (as_read c.in_ok-command.ensures.gives) c.in-Simple.is b h in
       let k : c.in-Call.number < c.args.below = subst (CallsBelow c.args.below) (s.expr_is ∙ ap plain c.in-Call.is) calls in
       absurd (omega arith);
   shorter = tt;
@@ -74,62 +74,62 @@ returns-then-number-below t c = record {
 
 pub measure-requires : goal.measure-requires
 measure-requires t c =
-    let n : length c.part-from-body.result.now ≤ length c.args.program.now = omega (arith, ap length c.part-from-body.ensures, length-drop (get_or c.args.outline.now.functions c.in-Call.number no_function).body c.args.program.now) in
-    let k = c.in-ok-counted.ensures in
+    let n : length c.part_from-body.result.now ≤ length c.args.program.now = omega (arith, ap length c.part_from-body.ensures, length-drop (get_or c.args.outline.now.functions c.in-Call.number no_function).body c.args.program.now) in
+    let k = c.in_ok-counted.ensures in
     (omega (arith, n, c.requires.short), (n, (c.requires.short, (omega arith, omega (arith, k.1, k.2)))))
 
-pub returns-in-err-with-body : goal.returns-in-err-with-body
-returns-in-err-with-body t c = record {
+pub returns-in_err-with_body : goal.returns-in_err-with_body
+returns-in_err-with_body t c = record {
   measured = λ p Φ following Γ e end enc out well cut n b h calls.
-      let s = simple_is (length c.args.program.now) c.args.bytes.now c.in-ok-command.rest.now end e c.in-ok-command.command c.in-Simple.simple (as_read c.in-ok-command.ensures.gives) c.in-Simple.is b h in
-      let k = c.in-ok-counted.ensures in
+      let s = simple_is (length c.args.program.now) c.args.bytes.now c.in_ok-command.rest.now end e c.in_ok-command.command c.in-Simple.simple (as_read c.in_ok-command.ensures.gives) c.in-Simple.is b h in
+      let k = c.in_ok-counted.ensures in
       let tree = tree_is Φ Γ e c.in-Simple.simple s.expr_is ∙ ap (unfold_simple (bodies_of Φ)) c.in-Call.is in
-      let r = call_ready c.args.program.now c.args.outline.now p Φ following c.in-Call.number c.part-from-body.result.now enc out well cut (omega (arith, n)) (search rules) c.part-from-body.ensures in
-      let m = c.in-err-with-body.ensures.measured p r.before r.later (r.function.parameter ∷ []) r.function.body r.rest enc out well r.cut r.count r.part_is r.proper r.calls in
-      broke_measured end c.args.so-far c.from-residual-in-err-with-body.result _ (unfold_expr Φ (bodies_of Φ) Γ e) c.from-residual-in-err-with-body.ensures.1
+      let r = call_ready c.args.program.now c.args.outline.now p Φ following c.in-Call.number c.part_from-body.result.now enc out well cut (omega (arith, n)) (search rules) c.part_from-body.ensures in
+      let m = c.in_err-with_body.ensures.measured p r.before r.later (r.function.parameter ∷ []) r.function.body r.rest enc out well r.cut r.count r.part_is r.proper r.calls in
+      broke_measured end c.args.so_far c.from_residual-in_err-with_body.result _ (unfold_expr Φ (bodies_of Φ) Γ e) c.from_residual-in_err-with_body.ensures.1
       (m.0, omega (arith, m.1, k.1, ap size tree, ap size r.tree));
-  shorter = IfOk-from_err c.from-residual-in-err-with-body.result _ c.from-residual-in-err-with-body.ensures.0;
-  within = IfOk-from_err c.from-residual-in-err-with-body.result _ c.from-residual-in-err-with-body.ensures.0;
+  shorter = IfOk-from_err c.from_residual-in_err-with_body.result _ c.from_residual-in_err-with_body.ensures.0;
+  within = IfOk-from_err c.from_residual-in_err-with_body.result _ c.from_residual-in_err-with_body.ensures.0;
 }
 
-pub returns-in-ok-with-body : goal.returns-in-ok-with-body
-returns-in-ok-with-body t c = record {
+pub returns-in_ok-with_body : goal.returns-in_ok-with_body
+returns-in_ok-with_body t c = record {
   measured = λ p Φ following Γ e end enc out well cut n b h calls.
-      let s = simple_is (length c.args.program.now) c.args.bytes.now c.in-ok-command.rest.now end e c.in-ok-command.command c.in-Simple.simple (as_read c.in-ok-command.ensures.gives) c.in-Simple.is b h in
-      let k = c.in-ok-counted.ensures in
+      let s = simple_is (length c.args.program.now) c.args.bytes.now c.in_ok-command.rest.now end e c.in_ok-command.command c.in-Simple.simple (as_read c.in_ok-command.ensures.gives) c.in-Simple.is b h in
+      let k = c.in_ok-counted.ensures in
       let tree = tree_is Φ Γ e c.in-Simple.simple s.expr_is ∙ ap (unfold_simple (bodies_of Φ)) c.in-Call.is in
-      let r = call_ready c.args.program.now c.args.outline.now p Φ following c.in-Call.number c.part-from-body.result.now enc out well cut (omega (arith, n)) (search rules) c.part-from-body.ensures in
-      let m = c.in-ok-with-body.ensures.measured p r.before r.later (r.function.parameter ∷ []) r.function.body r.rest enc out well r.cut r.count r.part_is r.proper r.calls in
+      let r = call_ready c.args.program.now c.args.outline.now p Φ following c.in-Call.number c.part_from-body.result.now enc out well cut (omega (arith, n)) (search rules) c.part_from-body.ensures in
+      let m = c.in_ok-with_body.ensures.measured p r.before r.later (r.function.parameter ∷ []) r.function.body r.rest enc out well r.cut r.count r.part_is r.proper r.calls in
       (omega (arith, m.0, k.1, ap size tree, ap size r.tree), omega (arith, m.1, k.2, ap flips tree, ap flips r.tree), m.2, s.rest_is);
-  shorter = c.in-ok-command.ensures.shorter;
-  within = c.in-ok-with-body.ensures.within;
+  shorter = c.in_ok-command.ensures.shorter;
+  within = c.in_ok-with_body.ensures.within;
 }
 
-pub returns-in-err-with-first : goal.returns-in-err-with-first
-returns-in-err-with-first t c = record {
+pub returns-in_err-with_first : goal.returns-in_err-with_first
+returns-in_err-with_first t c = record {
   measured = λ p Φ following Γ e end enc out well cut n b h calls.
-      let i = splits (length c.args.program.now) c.args.bytes.now c.in-ok-command.rest.now end e c.in-ok-command.command c.requires.part (as_read c.in-ok-command.ensures.gives) c.in-If.is b h in
-      let k = c.in-ok-counted.ensures in
-      let m = c.in-err-with-first.ensures.measured p Φ following Γ i.first (encode_expr i.second ++ end) enc out well cut n i.rest_is i.first_proper (i.calls c.args.below calls).0 in
-      broke_measured end c.args.so-far c.from-residual-in-err-with-first.result _ (unfold_expr Φ (bodies_of Φ) Γ e) c.from-residual-in-err-with-first.ensures.1
+      let i = splits (length c.args.program.now) c.args.bytes.now c.in_ok-command.rest.now end e c.in_ok-command.command c.requires.part (as_read c.in_ok-command.ensures.gives) c.in-If.is b h in
+      let k = c.in_ok-counted.ensures in
+      let m = c.in_err-with_first.ensures.measured p Φ following Γ i.first (encode_expr i.second ++ end) enc out well cut n i.rest_is i.first_proper (i.calls c.args.below calls).0 in
+      broke_measured end c.args.so_far c.from_residual-in_err-with_first.result _ (unfold_expr Φ (bodies_of Φ) Γ e) c.from_residual-in_err-with_first.ensures.1
       (m.0, omega (arith, m.1, k.1, i.sizes Φ (bodies_of Φ) Γ));
-  shorter = IfOk-from_err c.from-residual-in-err-with-first.result _ c.from-residual-in-err-with-first.ensures.0;
-  within = IfOk-from_err c.from-residual-in-err-with-first.result _ c.from-residual-in-err-with-first.ensures.0;
+  shorter = IfOk-from_err c.from_residual-in_err-with_first.result _ c.from_residual-in_err-with_first.ensures.0;
+  within = IfOk-from_err c.from_residual-in_err-with_first.result _ c.from_residual-in_err-with_first.ensures.0;
 }
 
-pub returns-in-ok-with-first : goal.returns-in-ok-with-first
-returns-in-ok-with-first t c = record {
+pub returns-in_ok-with_first : goal.returns-in_ok-with_first
+returns-in_ok-with_first t c = record {
   measured = λ p Φ following Γ e end enc out well cut n b h calls.
-      let i = splits (length c.args.program.now) c.args.bytes.now c.in-ok-command.rest.now end e c.in-ok-command.command c.requires.part (as_read c.in-ok-command.ensures.gives) c.in-If.is b h in
-      let k = c.in-ok-counted.ensures in
+      let i = splits (length c.args.program.now) c.args.bytes.now c.in_ok-command.rest.now end e c.in_ok-command.command c.requires.part (as_read c.in_ok-command.ensures.gives) c.in-If.is b h in
+      let k = c.in_ok-counted.ensures in
       let bodies = bodies_of Φ in
-      let m = c.in-ok-with-first.ensures.measured p Φ following Γ i.first (encode_expr i.second ++ end) enc out well cut n i.rest_is i.first_proper (i.calls c.args.below calls).0 in
+      let m = c.in_ok-with_first.ensures.measured p Φ following Γ i.first (encode_expr i.second ++ end) enc out well cut n i.rest_is i.first_proper (i.calls c.args.below calls).0 in
       let l = c.measure-in-If-2.ensures.measured p Φ following (i.scope Φ bodies Γ) i.second end enc out well cut n m.3 i.second_proper (i.calls c.args.below calls).1 in
-      measured_more end c.args.so-far c.in-ok-with-first.with_first c.measure-in-If-2.result (unfold_expr Φ bodies Γ i.first) (unfold_expr Φ bodies (i.scope Φ bodies Γ) i.second) (unfold_expr Φ bodies Γ e)
+      measured_more end c.args.so_far c.in_ok-with_first.with_first c.measure-in-If-2.result (unfold_expr Φ bodies Γ i.first) (unfold_expr Φ bodies (i.scope Φ bodies Γ) i.second) (unfold_expr Φ bodies Γ e)
       (omega (arith, m.0, k.1)) (omega (arith, m.1, k.2)) (i.sizes Φ bodies Γ) (i.numbers Φ bodies Γ) l;
   shorter =
       IfOk-weaker c.measure-in-If-2.result _ _
-      (λ x h. omega (arith, c.in-ok-with-first.ensures.shorter, c.in-ok-command.ensures.shorter))
+      (λ x h. omega (arith, c.in_ok-with_first.ensures.shorter, c.in_ok-command.ensures.shorter))
       c.measure-in-If-2.ensures.shorter;
   within = c.measure-in-If-2.ensures.within;
 }

@@ -10,58 +10,58 @@ use Rattle.language.proofs.Unfolds.{well_called, typed_calls}
 use Rattle.language.proofs.AcceptedBytes.{accepted_fault, accepted_typed, too_large, too_many_flips, within_limits, unfolds_well, broke_unfolding}
 use Rattle.language.proofs.unfolding.unfold_main.Goals as goal
 
-pub returns-in-err-typed : goal.returns-in-err-typed
-returns-in-err-typed c =
-    unfolds_well c.args.program.now c.from-residual.result
-    (broke_unfolding c.from-residual.result (Typing _) c.from-residual.ensures.1 (accepted_fault c.args.program.now c.in-err-typed.ensures.exact))
+pub returns-in_err-typed : goal.returns-in_err-typed
+returns-in_err-typed c =
+    unfolds_well c.args.program.now c.from_residual.result
+    (broke_unfolding c.from_residual.result (Typing _) c.from_residual.ensures.1 (accepted_fault c.args.program.now c.in_err-typed.ensures.exact))
 
 pub measure-requires : goal.measure-requires
 measure-requires c =
-    let w = c.in-ok-typed.ensures.within in
+    let w = c.in_ok-typed.ensures.within in
     record {
-      part = omega (arith, ap length c.part-from-main.ensures, length-drop c.in-ok-typed.typed.outline.main c.args.program.now);
+      part = omega (arith, ap length c.part_from-main.ensures, length-drop c.in_ok-typed.typed.outline.main c.args.program.now);
       short = w.0;
       below = w.1;
       flips = omega arith;
     }
 
-pub returns-in-err-figures : goal.returns-in-err-figures
-returns-in-err-figures c =
+pub returns-in_err-figures : goal.returns-in_err-figures
+returns-in_err-figures c =
     let s = c.args.program.now in
-    let t = c.in-ok-typed.ensures.exact in
+    let t = c.in_ok-typed.ensures.exact in
     let p = t.0.0 in
     let d = typed_sound s t.0 t.1 in
     let out = t.2.outline_is in
-    let m = main_ready s c.in-ok-typed.typed.outline p c.part-from-main.result.now d.0 out (search rules) c.part-from-main.ensures in
+    let m = main_ready s c.in_ok-typed.typed.outline p c.part_from-main.result.now d.0 out (search rules) c.part_from-main.ensures in
     let calls = subst (λ (k : ℕ). CallsBelow k p.main) (sym out.count_is) (typed_calls d.1.main) in
-    let f = c.in-err-figures.ensures.measured p p.functions [] [] p.main m.rest d.0 out (well_called p t.0.1 d.1) (sym (append-nil p.functions)) (sym out.count_is) m.part_is d.0.1.main_proper calls in
-    unfolds_well s c.from-residual-in-err-figures.result
-    (broke_unfolding c.from-residual-in-err-figures.result _ c.from-residual-in-err-figures.ensures.1
+    let f = c.in_err-figures.ensures.measured p p.functions [] [] p.main m.rest d.0 out (well_called p t.0.1 d.1) (sym (append-nil p.functions)) (sym out.count_is) m.part_is d.0.1.main_proper calls in
+    unfolds_well s c.from_residual-in_err-figures.result
+    (broke_unfolding c.from_residual-in_err-figures.result _ c.from_residual-in_err-figures.ensures.1
     (accepted_typed s t.1 ∙ too_large t.0 (omega (arith, f.1)) ∙ ap Err (sym f.0)))
 
-pub returns-then-figures-gt-MOST-FLIPS : goal.returns-then-figures-gt-MOST-FLIPS
-returns-then-figures-gt-MOST-FLIPS c =
+pub returns-then-figures-gt-MOST_FLIPS : goal.returns-then-figures-gt-MOST_FLIPS
+returns-then-figures-gt-MOST_FLIPS c =
     let s = c.args.program.now in
-    let t = c.in-ok-typed.ensures.exact in
+    let t = c.in_ok-typed.ensures.exact in
     let p = t.0.0 in
     let d = typed_sound s t.0 t.1 in
     let out = t.2.outline_is in
-    let m = main_ready s c.in-ok-typed.typed.outline p c.part-from-main.result.now d.0 out (search rules) c.part-from-main.ensures in
+    let m = main_ready s c.in_ok-typed.typed.outline p c.part_from-main.result.now d.0 out (search rules) c.part_from-main.ensures in
     let calls = subst (λ (k : ℕ). CallsBelow k p.main) (sym out.count_is) (typed_calls d.1.main) in
-    let f = c.in-ok-figures.ensures.measured p p.functions [] [] p.main m.rest d.0 out (well_called p t.0.1 d.1) (sym (append-nil p.functions)) (sym out.count_is) m.part_is d.0.1.main_proper calls in
+    let f = c.in_ok-figures.ensures.measured p p.functions [] [] p.main m.rest d.0 out (well_called p t.0.1 d.1) (sym (append-nil p.functions)) (sym out.count_is) m.part_is d.0.1.main_proper calls in
     unfolds_well s (Err Flips)
     (accepted_typed s t.1 ∙ too_many_flips t.0 (omega (arith, f.0, f.2)) (omega (arith, f.1)))
 
 pub returns : goal.returns
 returns c =
     let s = c.args.program.now in
-    let t = c.in-ok-typed.ensures.exact in
+    let t = c.in_ok-typed.ensures.exact in
     let p = t.0.0 in
     let d = typed_sound s t.0 t.1 in
     let out = t.2.outline_is in
-    let m = main_ready s c.in-ok-typed.typed.outline p c.part-from-main.result.now d.0 out (search rules) c.part-from-main.ensures in
+    let m = main_ready s c.in_ok-typed.typed.outline p c.part_from-main.result.now d.0 out (search rules) c.part_from-main.ensures in
     let calls = subst (λ (k : ℕ). CallsBelow k p.main) (sym out.count_is) (typed_calls d.1.main) in
-    let f = c.in-ok-figures.ensures.measured p p.functions [] [] p.main m.rest d.0 out (well_called p t.0.1 d.1) (sym (append-nil p.functions)) (sym out.count_is) m.part_is d.0.1.main_proper calls in
+    let f = c.in_ok-figures.ensures.measured p p.functions [] [] p.main m.rest d.0 out (well_called p t.0.1 d.1) (sym (append-nil p.functions)) (sym out.count_is) m.part_is d.0.1.main_proper calls in
     unfolds_well s (Ok _) (
       t.0,
       accepted_typed s t.1 ∙ within_limits t.0 (omega (arith, f.0, f.2)) (omega (arith, f.1)),

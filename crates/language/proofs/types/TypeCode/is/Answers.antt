@@ -6,4 +6,4 @@ use Rattle.std.proofs.lemmas.Bool.Decides.{Decides-eqb}
 pub returns : goal.returns
 returns c =
     let d = slice_eq-Decides Decides-eqb _ _ _ c.eq.ensures in
-    (λ e. sym c.as-slice.ensures.bytes ∙ d.0 e ∙ c.as-slice-2.ensures.bytes, λ e. d.1 (c.as-slice.ensures.bytes ∙ e ∙ sym c.as-slice-2.ensures.bytes))
+    (λ e. sym c.as_slice.ensures.bytes ∙ d.0 e ∙ c.as_slice-2.ensures.bytes, λ e. d.1 (c.as_slice.ensures.bytes ∙ e ∙ sym c.as_slice-2.ensures.bytes))

@@ -6,7 +6,7 @@ use Rattle.language.proofs.types.TypeCode.pair.Goals as goal
 
 pub returns-then-end-gt31 : goal.returns-then-end-gt31
 returns-then-end-gt31 c σ τ h h' =
-    omega (arith, ap length c.as-slice-first.ensures.bytes, ap length c.as-slice-second.ensures.bytes, ap length h, ap length h', type_length σ, type_length τ)
+    omega (arith, ap length c.as_slice-first.ensures.bytes, ap length c.as_slice-second.ensures.bytes, ap length h, ap length h', type_length σ, type_length τ)
 
 -- a byte, and two lists written behind it
 written : (a b : List ℕ) (d : ℕ) (bytes once twice : List ℕ) → once ≡ d ∷ (a ++ drop (1 + length a) bytes) → twice ≡ take (1 + length a) once ++ (b ++ drop (1 + length a + length b) once) → take (1 + length a + length b) twice ≡ d ∷ (a ++ b)
@@ -19,9 +19,9 @@ written a b d bytes once twice e e' =
 
 pub returns : goal.returns
 returns c σ τ h h' =
-    let p = c.as-slice-first.ensures.bytes ∙ h in
-    let q = c.as-slice-second.ensures.bytes ∙ h' in (
-      written c.as-slice-first.result.now c.as-slice-second.result.now 1 _ c.put.new.items c.put-2.new.items c.put.ensures c.put-2.ensures
-          ∙ ap (λ (x : List ℕ). 1 ∷ x) (ap (λ (x : List ℕ). x ++ c.as-slice-second.result.now) p ∙ ap (λ (x : List ℕ). encode_ty σ ++ x) q),
+    let p = c.as_slice-first.ensures.bytes ∙ h in
+    let q = c.as_slice-second.ensures.bytes ∙ h' in (
+      written c.as_slice-first.result.now c.as_slice-second.result.now 1 _ c.put.new.items c.put-2.new.items c.put.ensures c.put-2.ensures
+          ∙ ap (λ (x : List ℕ). 1 ∷ x) (ap (λ (x : List ℕ). x ++ c.as_slice-second.result.now) p ∙ ap (λ (x : List ℕ). encode_ty σ ++ x) q),
       omega (arith, ap length p, ap length q, type_length σ, type_length τ),
     )

@@ -8,16 +8,16 @@ use Rattle.language.proofs.Results.{clash, ok_same}
 use Rattle.language.proofs.Encoding.{parts_cut, type_complete}
 use Rattle.language.proofs.types.TypeCode.parts.Goals as goal
 
-pub returns-in-default-read-leaves : goal.returns-in-default-read-leaves
-returns-in-default-read-leaves c τ h =
-    let s = c.as-slice.result.now in
-    let p = parts_cut s τ (c.as-slice.ensures.bytes ∙ h) (search rules) in
-    absurd (clash c.in-default-read-leaves.ensures.gives (ap (type_from (length (after 1 s))) p.3 ∙ type_complete (length (after 1 s)) p.0 (encode_ty p.1)))
+pub returns-in_default-read_leaves : goal.returns-in_default-read_leaves
+returns-in_default-read_leaves c τ h =
+    let s = c.as_slice.result.now in
+    let p = parts_cut s τ (c.as_slice.ensures.bytes ∙ h) (search rules) in
+    absurd (clash c.in_default-read_leaves.ensures.gives (ap (type_from (length (after 1 s))) p.3 ∙ type_complete (length (after 1 s)) p.0 (encode_ty p.1)))
 
 pub returns : goal.returns
 returns c τ h =
-    let s = c.as-slice.result.now in
-    let p = parts_cut s τ (c.as-slice.ensures.bytes ∙ h) (search rules) in
+    let s = c.as_slice.result.now in
+    let p = parts_cut s τ (c.as_slice.ensures.bytes ∙ h) (search rules) in
     let g = c.in-Ok.ensures.gives in
     let e = ok_same g.2 (ap (type_from (length (after 1 s))) p.3 ∙ type_complete (length (after 1 s)) p.0 (encode_ty p.1)) in
     let rest : c.in-Ok.second.now ≡ encode_ty p.1 = ap (λ (x : Ty × List ℕ). x.1) e in
