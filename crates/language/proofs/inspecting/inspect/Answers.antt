@@ -16,7 +16,7 @@ returns c =
       u.1,
       record {
         functions_are = b.typed_is.outline_is.count_is;
-        size_is = b.size-is;
+        size_is = b.size_is;
         flips_are = b.flips_is;
         leaves_are = c.leaves.ensures.counted u.0.1 b.typed_is.value_is;
       },

@@ -29,29 +29,29 @@ returns-in-Simple t c =
       shorter = c.in_ok-command.ensures.shorter;
     }
 
-pub returns-in_err-rest : goal.returns-in_err-rest
-returns-in_err-rest t c =
+pub returns-in_err-rest-in-If : goal.returns-in_err-rest-in-If
+returns-in_err-rest-in-If t c =
     let f = forks c.in_ok-command.command c.in-If.is in
     record {
       gives =
-          broke_passing c.from_residual-in_err-rest.result _ c.from_residual-in_err-rest.ensures.1
+          broke_passing c.from_residual-in_err-rest-in-If.result _ c.from_residual-in_err-rest-in-If.ensures.1
           (expr_forks c.args.whole c.args.bytes.now (as_read c.in_ok-command.ensures.gives) f.1
-          ∙ fork_first (expr_from c.args.whole) f.0 _ c.in_err-rest.ensures.gives);
-      shorter = IfOk-from_err c.from_residual-in_err-rest.result _ c.from_residual-in_err-rest.ensures.0;
+          ∙ fork_first (expr_from c.args.whole) f.0 _ c.in_err-rest-in-If.ensures.gives);
+      shorter = IfOk-from_err c.from_residual-in_err-rest-in-If.result _ c.from_residual-in_err-rest-in-If.ensures.0;
     }
 
-pub returns-in_ok-rest : goal.returns-in_ok-rest
-returns-in_ok-rest t c =
+pub returns-in_ok-rest-in-If : goal.returns-in_ok-rest-in-If
+returns-in_ok-rest-in-If t c =
     let f = forks c.in_ok-command.command c.in-If.is in
     record {
       gives =
-          second_passed c.args.whole f.0 c.in_ok-command.rest.now c.in_ok-rest.rest.now
+          second_passed c.args.whole f.0 c.in_ok-command.rest.now c.in_ok-rest-in-If.rest.now
           (expr_forks c.args.whole c.args.bytes.now (as_read c.in_ok-command.ensures.gives) f.1)
-          c.in_ok-rest.ensures.gives.1
+          c.in_ok-rest-in-If.ensures.gives.1
           c.read_expression-in-If.result
           c.read_expression-in-If.ensures.gives;
       shorter =
           IfOk-weaker c.read_expression-in-If.result _ _
-          (λ x h. omega (arith, c.in_ok-rest.ensures.shorter, c.in_ok-command.ensures.shorter))
+          (λ x h. omega (arith, c.in_ok-rest-in-If.ensures.shorter, c.in_ok-command.ensures.shorter))
           c.read_expression-in-If.ensures.shorter;
     }

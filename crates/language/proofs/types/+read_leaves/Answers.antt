@@ -21,30 +21,30 @@ returns-in-0 t c =
 pub returns-in_default : goal.returns-in_default
 returns-in_default t c = record { gives = type_unknown c.args.whole c.args.bytes.now (search rules) (search rules) (search rules); shorter = tt }
 
-pub returns-in_err-first : goal.returns-in_err-first
-returns-in_err-first t c =
+pub returns-in_err-first-in-1 : goal.returns-in_err-first-in-1
+returns-in_err-first-in-1 t c =
     record {
       gives =
           broke Counted c.from_residual.result _ c.from_residual.ensures.1
           (type_begins c.args.whole c.args.bytes.now 1 (fork product) (λ rest. refl) (search rules) (search rules)
-          ∙ fork_first (type_from c.args.whole) product _ c.in_err-first.ensures.gives);
+          ∙ fork_first (type_from c.args.whole) product _ c.in_err-first-in-1.ensures.gives);
       shorter = IfOk-from_err c.from_residual.result _ c.from_residual.ensures.0;
     }
 
-pub returns-in_err-second : goal.returns-in_err-second
-returns-in_err-second t c =
+pub returns-in_err-second-in-1 : goal.returns-in_err-second-in-1
+returns-in_err-second-in-1 t c =
     record {
       gives =
-          broke Counted c.from_residual-in_err-second.result _ c.from_residual-in_err-second.ensures.1
+          broke Counted c.from_residual-in_err-second-in-1.result _ c.from_residual-in_err-second-in-1.ensures.1
           (type_begins c.args.whole c.args.bytes.now 1 (fork product) (λ rest. refl) (search rules) (search rules)
-          ∙ fork_second (type_from c.args.whole) product _ c.in_ok-first.ensures.gives.2 c.in_err-second.ensures.gives);
-      shorter = IfOk-from_err c.from_residual-in_err-second.result _ c.from_residual-in_err-second.ensures.0;
+          ∙ fork_second (type_from c.args.whole) product _ c.in_ok-first-in-1.ensures.gives.2 c.in_err-second-in-1.ensures.gives);
+      shorter = IfOk-from_err c.from_residual-in_err-second-in-1.result _ c.from_residual-in_err-second-in-1.ensures.0;
     }
 
-pub returns-in_ok-second : goal.returns-in_ok-second
-returns-in_ok-second t c =
-    let first = c.in_ok-first.ensures.gives in
-    let second = c.in_ok-second.ensures.gives in
+pub returns-in_ok-second-in-1 : goal.returns-in_ok-second-in-1
+returns-in_ok-second-in-1 t c =
+    let first = c.in_ok-first-in-1.ensures.gives in
+    let second = c.in_ok-second-in-1.ensures.gives in
     record {
       gives = (
         product first.0 second.0,
@@ -52,5 +52,5 @@ returns-in_ok-second t c =
         type_begins c.args.whole c.args.bytes.now 1 (fork product) (λ rest. refl) (search rules) (search rules)
             ∙ fork_both (type_from c.args.whole) product _ first.2 second.2,
       );
-      shorter = omega (arith, c.in_ok-first.ensures.shorter, c.in_ok-second.ensures.shorter);
+      shorter = omega (arith, c.in_ok-first-in-1.ensures.shorter, c.in_ok-second-in-1.ensures.shorter);
     }

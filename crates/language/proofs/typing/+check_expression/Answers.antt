@@ -25,22 +25,22 @@ returns-in_err-command t c = record {
 command_is : {out : Read Command} {rest : List ℕ} {x k : Command} → out ≡ Ok (x, rest) → x ≡ k → out ≡ Ok (k, rest)
 command_is {rest = rest} e i = e ∙ ap (λ (y : Command). Ok (y, rest)) i
 
-pub returns-in_err-found : goal.returns-in_err-found
-returns-in_err-found t c = record {
+pub returns-in_err-found-in-Simple : goal.returns-in_err-found-in-Simple
+returns-in_err-found-in-Simple t c = record {
   types = λ Φ Γ e end call coded b h.
       let s = simple_at c.args.whole c.args.bytes.now c.in_ok-command.rest.now end e c.in-Simple.simple (command_is (as_read c.in_ok-command.ensures.gives) c.in-Simple.is) b h in
       let p = c.args.whole - length c.args.bytes.now in
-      broke_past end c.from_residual-in_err-found.result _ c.from_residual-in_err-found.ensures.1
-      (ap (check Φ Γ p) s.expr_is ∙ check_plain Φ Γ p c.in-Simple.simple ∙ c.in_err-found.ensures Φ Γ call coded);
-  shorter = IfOk-from_err c.from_residual-in_err-found.result _ c.from_residual-in_err-found.ensures.0;
+      broke_past end c.from_residual-in_err-found-in-Simple.result _ c.from_residual-in_err-found-in-Simple.ensures.1
+      (ap (check Φ Γ p) s.expr_is ∙ check_plain Φ Γ p c.in-Simple.simple ∙ c.in_err-found-in-Simple.ensures Φ Γ call coded);
+  shorter = IfOk-from_err c.from_residual-in_err-found-in-Simple.result _ c.from_residual-in_err-found-in-Simple.ensures.0;
 }
 
-pub returns-in_ok-found : goal.returns-in_ok-found
-returns-in_ok-found t c = record {
+pub returns-in_ok-found-in-Simple : goal.returns-in_ok-found-in-Simple
+returns-in_ok-found-in-Simple t c = record {
   types = λ Φ Γ e end call coded b h.
       let s = simple_at c.args.whole c.args.bytes.now c.in_ok-command.rest.now end e c.in-Simple.simple (command_is (as_read c.in_ok-command.ensures.gives) c.in-Simple.is) b h in
       let p = c.args.whole - length c.args.bytes.now in
-      let f = c.in_ok-found.ensures Φ Γ call coded in
+      let f = c.in_ok-found-in-Simple.ensures Φ Γ call coded in
       (f.0, f.1, ap (check Φ Γ p) s.expr_is ∙ check_plain Φ Γ p c.in-Simple.simple ∙ f.2, s.rest_is);
   shorter = c.in_ok-command.ensures.shorter;
 }
@@ -56,38 +56,38 @@ parts w bytes rest end e x l g i b h = let_at w bytes rest end e l (command_is g
 moved : (Φ : List Function) (Γ : List Ty) (e : Expr) {p q : ℕ} {out : Checked Ty} → check Φ Γ p e ≡ out → p ≡ q → check Φ Γ q e ≡ out
 moved Φ Γ e h i = ap (λ (n : ℕ). check Φ Γ n e) (sym i) ∙ h
 
-pub returns-in_err-check_bool : goal.returns-in_err-check_bool
-returns-in_err-check_bool t c = record {
+pub returns-in_err-check_bool-in-If : goal.returns-in_err-check_bool-in-If
+returns-in_err-check_bool-in-If t c = record {
   types = λ Φ Γ e end call coded b h.
       let i = arms c.args.whole c.args.bytes.now c.in_ok-command.rest.now end e c.in_ok-command.command c.in-If.guard c.requires (as_read c.in_ok-command.ensures.gives) c.in-If.is b h in
       let p = c.args.whole - length c.args.bytes.now in
-      broke_past end c.from_residual-in_err-check_bool.result _ c.from_residual-in_err-check_bool.ensures.1
-      (ap (check Φ Γ p) i.expr_is ∙ guard_fault Φ Γ p c.in-If.guard i.first i.second (sym (c.in_err-check_bool.ensures Γ coded)));
-  shorter = IfOk-from_err c.from_residual-in_err-check_bool.result _ c.from_residual-in_err-check_bool.ensures.0;
+      broke_past end c.from_residual-in_err-check_bool-in-If.result _ c.from_residual-in_err-check_bool-in-If.ensures.1
+      (ap (check Φ Γ p) i.expr_is ∙ guard_fault Φ Γ p c.in-If.guard i.first i.second (sym (c.in_err-check_bool-in-If.ensures Γ coded)));
+  shorter = IfOk-from_err c.from_residual-in_err-check_bool-in-If.result _ c.from_residual-in_err-check_bool-in-If.ensures.0;
 }
 
-pub returns-in_err-first : goal.returns-in_err-first
-returns-in_err-first t c = record {
+pub returns-in_err-first-in-If : goal.returns-in_err-first-in-If
+returns-in_err-first-in-If t c = record {
   types = λ Φ Γ e end call coded b h.
       let i = arms c.args.whole c.args.bytes.now c.in_ok-command.rest.now end e c.in_ok-command.command c.in-If.guard c.requires (as_read c.in_ok-command.ensures.gives) c.in-If.is b h in
       let p = c.args.whole - length c.args.bytes.now in
-      broke_past end c.from_residual-in_err-first.result _ c.from_residual-in_err-first.ensures.1
-      (ap (check Φ Γ p) i.expr_is ∙ first_arm_fault Φ Γ p c.in-If.guard i.first i.second (sym (c.in_ok-check_bool.ensures Γ coded))
-      (moved Φ Γ i.first (c.in_err-first.ensures.types Φ Γ i.first (encode_expr i.second ++ end) call coded i.rest_is i.first_proper) i.first_place));
-  shorter = IfOk-from_err c.from_residual-in_err-first.result _ c.from_residual-in_err-first.ensures.0;
+      broke_past end c.from_residual-in_err-first-in-If.result _ c.from_residual-in_err-first-in-If.ensures.1
+      (ap (check Φ Γ p) i.expr_is ∙ first_arm_fault Φ Γ p c.in-If.guard i.first i.second (sym (c.in_ok-check_bool-in-If.ensures Γ coded))
+      (moved Φ Γ i.first (c.in_err-first-in-If.ensures.types Φ Γ i.first (encode_expr i.second ++ end) call coded i.rest_is i.first_proper) i.first_place));
+  shorter = IfOk-from_err c.from_residual-in_err-first-in-If.result _ c.from_residual-in_err-first-in-If.ensures.0;
 }
 
-pub returns-in_err-second : goal.returns-in_err-second
-returns-in_err-second t c = record {
+pub returns-in_err-second-in-If : goal.returns-in_err-second-in-If
+returns-in_err-second-in-If t c = record {
   types = λ Φ Γ e end call coded b h.
       let i = arms c.args.whole c.args.bytes.now c.in_ok-command.rest.now end e c.in_ok-command.command c.in-If.guard c.requires (as_read c.in_ok-command.ensures.gives) c.in-If.is b h in
       let p = c.args.whole - length c.args.bytes.now in
-      let f = c.in_ok-first.ensures.types Φ Γ i.first (encode_expr i.second ++ end) call coded i.rest_is i.first_proper in
-      broke_past end c.from_residual-in_err-second.result _ c.from_residual-in_err-second.ensures.1
-      (ap (check Φ Γ p) i.expr_is ∙ second_arm_fault Φ Γ p c.in-If.guard i.first i.second (sym (c.in_ok-check_bool.ensures Γ coded))
+      let f = c.in_ok-first-in-If.ensures.types Φ Γ i.first (encode_expr i.second ++ end) call coded i.rest_is i.first_proper in
+      broke_past end c.from_residual-in_err-second-in-If.result _ c.from_residual-in_err-second-in-If.ensures.1
+      (ap (check Φ Γ p) i.expr_is ∙ second_arm_fault Φ Γ p c.in-If.guard i.first i.second (sym (c.in_ok-check_bool-in-If.ensures Γ coded))
       (moved Φ Γ i.first f.2 i.first_place)
-      (moved Φ Γ i.second (c.in_err-second.ensures.types Φ Γ i.second end call coded f.3 i.second_proper) (i.second_place c.in_ok-first.rest.now f.3)));
-  shorter = IfOk-from_err c.from_residual-in_err-second.result _ c.from_residual-in_err-second.ensures.0;
+      (moved Φ Γ i.second (c.in_err-second-in-If.ensures.types Φ Γ i.second end call coded f.3 i.second_proper) (i.second_place c.in_ok-first-in-If.rest.now f.3)));
+  shorter = IfOk-from_err c.from_residual-in_err-second-in-If.result _ c.from_residual-in_err-second-in-If.ensures.0;
 }
 
 pub returns-then-not-is : goal.returns-then-not-is
@@ -95,12 +95,12 @@ returns-then-not-is t c = record {
   types = λ Φ Γ e end call coded b h.
       let i = arms c.args.whole c.args.bytes.now c.in_ok-command.rest.now end e c.in_ok-command.command c.in-If.guard c.requires (as_read c.in_ok-command.ensures.gives) c.in-If.is b h in
       let p = c.args.whole - length c.args.bytes.now in
-      let f = c.in_ok-first.ensures.types Φ Γ i.first (encode_expr i.second ++ end) call coded i.rest_is i.first_proper in
-      let s = c.in_ok-second.ensures.types Φ Γ i.second end call coded f.3 i.second_proper in
-      ap (check Φ Γ p) i.expr_is ∙ arms_agree Φ Γ p c.in-If.guard i.first i.second false (sym (c.in_ok-check_bool.ensures Γ coded))
+      let f = c.in_ok-first-in-If.ensures.types Φ Γ i.first (encode_expr i.second ++ end) call coded i.rest_is i.first_proper in
+      let s = c.in_ok-second-in-If.ensures.types Φ Γ i.second end call coded f.3 i.second_proper in
+      ap (check Φ Γ p) i.expr_is ∙ arms_agree Φ Γ p c.in-If.guard i.first i.second false (sym (c.in_ok-check_bool-in-If.ensures Γ coded))
       (moved Φ Γ i.first f.2 i.first_place)
-      (moved Φ Γ i.second s.2 (i.second_place c.in_ok-first.rest.now f.3))
-      (same_coded c.in_ok-first.first c.in_ok-second.second f.0 s.0 c.is.result f.1 s.1 c.is.ensures ∙ c.if-not-is.true);
+      (moved Φ Γ i.second s.2 (i.second_place c.in_ok-first-in-If.rest.now f.3))
+      (same_coded c.in_ok-first-in-If.first c.in_ok-second-in-If.second f.0 s.0 c.is.result f.1 s.1 c.is.ensures ∙ c.if-not-is.true);
   shorter = tt;
 }
 
@@ -109,28 +109,28 @@ returns-else-not-is t c = record {
   types = λ Φ Γ e end call coded b h.
       let i = arms c.args.whole c.args.bytes.now c.in_ok-command.rest.now end e c.in_ok-command.command c.in-If.guard c.requires (as_read c.in_ok-command.ensures.gives) c.in-If.is b h in
       let p = c.args.whole - length c.args.bytes.now in
-      let f = c.in_ok-first.ensures.types Φ Γ i.first (encode_expr i.second ++ end) call coded i.rest_is i.first_proper in
-      let s = c.in_ok-second.ensures.types Φ Γ i.second end call coded f.3 i.second_proper in (
+      let f = c.in_ok-first-in-If.ensures.types Φ Γ i.first (encode_expr i.second ++ end) call coded i.rest_is i.first_proper in
+      let s = c.in_ok-second-in-If.ensures.types Φ Γ i.second end call coded f.3 i.second_proper in (
         s.0,
         s.1,
-        ap (check Φ Γ p) i.expr_is ∙ arms_agree Φ Γ p c.in-If.guard i.first i.second true (sym (c.in_ok-check_bool.ensures Γ coded))
+        ap (check Φ Γ p) i.expr_is ∙ arms_agree Φ Γ p c.in-If.guard i.first i.second true (sym (c.in_ok-check_bool-in-If.ensures Γ coded))
             (moved Φ Γ i.first f.2 i.first_place)
-            (moved Φ Γ i.second s.2 (i.second_place c.in_ok-first.rest.now f.3))
-            (same_coded c.in_ok-first.first c.in_ok-second.second f.0 s.0 c.is.result f.1 s.1 c.is.ensures ∙ c.if-not-is.false),
+            (moved Φ Γ i.second s.2 (i.second_place c.in_ok-first-in-If.rest.now f.3))
+            (same_coded c.in_ok-first-in-If.first c.in_ok-second-in-If.second f.0 s.0 c.is.result f.1 s.1 c.is.ensures ∙ c.if-not-is.false),
         s.3,
       );
-  shorter = omega (arith, c.in_ok-second.ensures.shorter, c.in_ok-first.ensures.shorter, c.in_ok-command.ensures.shorter);
+  shorter = omega (arith, c.in_ok-second-in-If.ensures.shorter, c.in_ok-first-in-If.ensures.shorter, c.in_ok-command.ensures.shorter);
 }
 
-pub returns-in_err-bound : goal.returns-in_err-bound
-returns-in_err-bound t c = record {
+pub returns-in_err-bound-in-Let : goal.returns-in_err-bound-in-Let
+returns-in_err-bound-in-Let t c = record {
   types = λ Φ Γ e end call coded b h.
       let i = parts c.args.whole c.args.bytes.now c.in_ok-command.rest.now end e c.in_ok-command.command c.requires (as_read c.in_ok-command.ensures.gives) c.in-Let.is b h in
       let p = c.args.whole - length c.args.bytes.now in
-      broke_past end c.from_residual-in_err-bound.result _ c.from_residual-in_err-bound.ensures.1
+      broke_past end c.from_residual-in_err-bound-in-Let.result _ c.from_residual-in_err-bound-in-Let.ensures.1
       (ap (check Φ Γ p) i.expr_is ∙ first_part_fault Φ Γ p i.first i.second
-      (moved Φ Γ i.first (c.in_err-bound.ensures.types Φ Γ i.first (encode_expr i.second ++ end) call coded i.rest_is i.first_proper) i.first_place));
-  shorter = IfOk-from_err c.from_residual-in_err-bound.result _ c.from_residual-in_err-bound.ensures.0;
+      (moved Φ Γ i.first (c.in_err-bound-in-Let.ensures.types Φ Γ i.first (encode_expr i.second ++ end) call coded i.rest_is i.first_proper) i.first_place));
+  shorter = IfOk-from_err c.from_residual-in_err-bound-in-Let.result _ c.from_residual-in_err-bound-in-Let.ensures.0;
 }
 
 pub returns-then-scope-ge-MOST_NAMES : goal.returns-then-scope-ge-MOST_NAMES
@@ -138,7 +138,7 @@ returns-then-scope-ge-MOST_NAMES t c = record {
   types = λ Φ Γ e end call coded b h.
       let i = parts c.args.whole c.args.bytes.now c.in_ok-command.rest.now end e c.in_ok-command.command c.requires (as_read c.in_ok-command.ensures.gives) c.in-Let.is b h in
       let p = c.args.whole - length c.args.bytes.now in
-      let f = c.in_ok-bound.ensures.types Φ Γ i.first (encode_expr i.second ++ end) call coded i.rest_is i.first_proper in
+      let f = c.in_ok-bound-in-Let.ensures.types Φ Γ i.first (encode_expr i.second ++ end) call coded i.rest_is i.first_proper in
       ap (check Φ Γ p) i.expr_is ∙ names_over Φ Γ p i.first i.second (moved Φ Γ i.first f.2 i.first_place) (omega (arith, scope_length c.args.scope.now Γ coded));
   shorter = tt;
 }
@@ -148,16 +148,16 @@ returns-else-scope-ge-MOST_NAMES t c = record {
   types = λ Φ Γ e end call coded b h.
       let i = parts c.args.whole c.args.bytes.now c.in_ok-command.rest.now end e c.in_ok-command.command c.requires (as_read c.in_ok-command.ensures.gives) c.in-Let.is b h in
       let p = c.args.whole - length c.args.bytes.now in
-      let f = c.in_ok-bound.ensures.types Φ Γ i.first (encode_expr i.second ++ end) call coded i.rest_is i.first_proper in
+      let f = c.in_ok-bound-in-Let.ensures.types Φ Γ i.first (encode_expr i.second ++ end) call coded i.rest_is i.first_proper in
       let n = length c.args.scope.now in
-      let names : take (n + 1 - 0) c.extended-names.result ≡ c.args.scope.now ++ (c.in_ok-bound.bound ∷ []) = ap (λ (k : ℕ). take k c.extended-names.result) (sub-zero (n + 1)) ∙ c.extended-names.ensures in
-      let inner = subst (λ (ts : List TypeCode). AllCoded ts (Γ ++ (f.0 ∷ []))) (sym names) (scope_more c.args.scope.now Γ c.in_ok-bound.bound f.0 coded f.1) in
+      let names : take (n + 1 - 0) c.extended-names.result ≡ c.args.scope.now ++ (c.in_ok-bound-in-Let.bound ∷ []) = ap (λ (k : ℕ). take k c.extended-names.result) (sub-zero (n + 1)) ∙ c.extended-names.ensures in
+      let inner = subst (λ (ts : List TypeCode). AllCoded ts (Γ ++ (f.0 ∷ []))) (sym names) (scope_more c.args.scope.now Γ c.in_ok-bound-in-Let.bound f.0 coded f.1) in
       past_same end c.check_expression-in-Let-2.result
       (ap (check Φ Γ p) i.expr_is ∙ second_part Φ Γ p i.first i.second (moved Φ Γ i.first f.2 i.first_place) (omega (arith, scope_length c.args.scope.now Γ coded))
-      ∙ ap (λ (k : ℕ). check Φ (Γ ++ (f.0 ∷ [])) k i.second) (sym (i.second_place c.in_ok-bound.rest.now f.3)))
+      ∙ ap (λ (k : ℕ). check Φ (Γ ++ (f.0 ∷ [])) k i.second) (sym (i.second_place c.in_ok-bound-in-Let.rest.now f.3)))
       (c.check_expression-in-Let-2.ensures.types Φ (Γ ++ (f.0 ∷ [])) i.second end call inner f.3 i.second_proper);
   shorter =
       IfOk-weaker c.check_expression-in-Let-2.result _ _
-      (λ x k. omega (arith, c.in_ok-bound.ensures.shorter, c.in_ok-command.ensures.shorter))
+      (λ x k. omega (arith, c.in_ok-bound-in-Let.ensures.shorter, c.in_ok-command.ensures.shorter))
       c.check_expression-in-Let-2.ensures.shorter;
 }

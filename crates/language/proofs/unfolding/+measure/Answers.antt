@@ -78,58 +78,58 @@ measure-requires t c =
     let k = c.in_ok-counted.ensures in
     (omega (arith, n, c.requires.short), (n, (c.requires.short, (omega arith, omega (arith, k.1, k.2)))))
 
-pub returns-in_err-with_body : goal.returns-in_err-with_body
-returns-in_err-with_body t c = record {
+pub returns-in_err-with_body-in-Call : goal.returns-in_err-with_body-in-Call
+returns-in_err-with_body-in-Call t c = record {
   measured = λ p Φ following Γ e end enc out well cut n b h calls.
       let s = simple_is (length c.args.program.now) c.args.bytes.now c.in_ok-command.rest.now end e c.in_ok-command.command c.in-Simple.simple (as_read c.in_ok-command.ensures.gives) c.in-Simple.is b h in
       let k = c.in_ok-counted.ensures in
       let tree = tree_is Φ Γ e c.in-Simple.simple s.expr_is ∙ ap (unfold_simple (bodies_of Φ)) c.in-Call.is in
       let r = call_ready c.args.program.now c.args.outline.now p Φ following c.in-Call.number c.part_from-body.result.now enc out well cut (omega (arith, n)) (search rules) c.part_from-body.ensures in
-      let m = c.in_err-with_body.ensures.measured p r.before r.later (r.function.parameter ∷ []) r.function.body r.rest enc out well r.cut r.count r.part_is r.proper r.calls in
-      broke_measured end c.args.so_far c.from_residual-in_err-with_body.result _ (unfold_expr Φ (bodies_of Φ) Γ e) c.from_residual-in_err-with_body.ensures.1
+      let m = c.in_err-with_body-in-Call.ensures.measured p r.before r.later (r.function.parameter ∷ []) r.function.body r.rest enc out well r.cut r.count r.part_is r.proper r.calls in
+      broke_measured end c.args.so_far c.from_residual-in_err-with_body-in-Call.result _ (unfold_expr Φ (bodies_of Φ) Γ e) c.from_residual-in_err-with_body-in-Call.ensures.1
       (m.0, omega (arith, m.1, k.1, ap size tree, ap size r.tree));
-  shorter = IfOk-from_err c.from_residual-in_err-with_body.result _ c.from_residual-in_err-with_body.ensures.0;
-  within = IfOk-from_err c.from_residual-in_err-with_body.result _ c.from_residual-in_err-with_body.ensures.0;
+  shorter = IfOk-from_err c.from_residual-in_err-with_body-in-Call.result _ c.from_residual-in_err-with_body-in-Call.ensures.0;
+  within = IfOk-from_err c.from_residual-in_err-with_body-in-Call.result _ c.from_residual-in_err-with_body-in-Call.ensures.0;
 }
 
-pub returns-in_ok-with_body : goal.returns-in_ok-with_body
-returns-in_ok-with_body t c = record {
+pub returns-in_ok-with_body-in-Call : goal.returns-in_ok-with_body-in-Call
+returns-in_ok-with_body-in-Call t c = record {
   measured = λ p Φ following Γ e end enc out well cut n b h calls.
       let s = simple_is (length c.args.program.now) c.args.bytes.now c.in_ok-command.rest.now end e c.in_ok-command.command c.in-Simple.simple (as_read c.in_ok-command.ensures.gives) c.in-Simple.is b h in
       let k = c.in_ok-counted.ensures in
       let tree = tree_is Φ Γ e c.in-Simple.simple s.expr_is ∙ ap (unfold_simple (bodies_of Φ)) c.in-Call.is in
       let r = call_ready c.args.program.now c.args.outline.now p Φ following c.in-Call.number c.part_from-body.result.now enc out well cut (omega (arith, n)) (search rules) c.part_from-body.ensures in
-      let m = c.in_ok-with_body.ensures.measured p r.before r.later (r.function.parameter ∷ []) r.function.body r.rest enc out well r.cut r.count r.part_is r.proper r.calls in
+      let m = c.in_ok-with_body-in-Call.ensures.measured p r.before r.later (r.function.parameter ∷ []) r.function.body r.rest enc out well r.cut r.count r.part_is r.proper r.calls in
       (omega (arith, m.0, k.1, ap size tree, ap size r.tree), omega (arith, m.1, k.2, ap flips tree, ap flips r.tree), m.2, s.rest_is);
   shorter = c.in_ok-command.ensures.shorter;
-  within = c.in_ok-with_body.ensures.within;
+  within = c.in_ok-with_body-in-Call.ensures.within;
 }
 
-pub returns-in_err-with_first : goal.returns-in_err-with_first
-returns-in_err-with_first t c = record {
+pub returns-in_err-with_first-in-If : goal.returns-in_err-with_first-in-If
+returns-in_err-with_first-in-If t c = record {
   measured = λ p Φ following Γ e end enc out well cut n b h calls.
       let i = splits (length c.args.program.now) c.args.bytes.now c.in_ok-command.rest.now end e c.in_ok-command.command c.requires.part (as_read c.in_ok-command.ensures.gives) c.in-If.is b h in
       let k = c.in_ok-counted.ensures in
-      let m = c.in_err-with_first.ensures.measured p Φ following Γ i.first (encode_expr i.second ++ end) enc out well cut n i.rest_is i.first_proper (i.calls c.args.below calls).0 in
-      broke_measured end c.args.so_far c.from_residual-in_err-with_first.result _ (unfold_expr Φ (bodies_of Φ) Γ e) c.from_residual-in_err-with_first.ensures.1
+      let m = c.in_err-with_first-in-If.ensures.measured p Φ following Γ i.first (encode_expr i.second ++ end) enc out well cut n i.rest_is i.first_proper (i.calls c.args.below calls).0 in
+      broke_measured end c.args.so_far c.from_residual-in_err-with_first-in-If.result _ (unfold_expr Φ (bodies_of Φ) Γ e) c.from_residual-in_err-with_first-in-If.ensures.1
       (m.0, omega (arith, m.1, k.1, i.sizes Φ (bodies_of Φ) Γ));
-  shorter = IfOk-from_err c.from_residual-in_err-with_first.result _ c.from_residual-in_err-with_first.ensures.0;
-  within = IfOk-from_err c.from_residual-in_err-with_first.result _ c.from_residual-in_err-with_first.ensures.0;
+  shorter = IfOk-from_err c.from_residual-in_err-with_first-in-If.result _ c.from_residual-in_err-with_first-in-If.ensures.0;
+  within = IfOk-from_err c.from_residual-in_err-with_first-in-If.result _ c.from_residual-in_err-with_first-in-If.ensures.0;
 }
 
-pub returns-in_ok-with_first : goal.returns-in_ok-with_first
-returns-in_ok-with_first t c = record {
+pub returns-in_ok-with_first-in-If : goal.returns-in_ok-with_first-in-If
+returns-in_ok-with_first-in-If t c = record {
   measured = λ p Φ following Γ e end enc out well cut n b h calls.
       let i = splits (length c.args.program.now) c.args.bytes.now c.in_ok-command.rest.now end e c.in_ok-command.command c.requires.part (as_read c.in_ok-command.ensures.gives) c.in-If.is b h in
       let k = c.in_ok-counted.ensures in
       let bodies = bodies_of Φ in
-      let m = c.in_ok-with_first.ensures.measured p Φ following Γ i.first (encode_expr i.second ++ end) enc out well cut n i.rest_is i.first_proper (i.calls c.args.below calls).0 in
+      let m = c.in_ok-with_first-in-If.ensures.measured p Φ following Γ i.first (encode_expr i.second ++ end) enc out well cut n i.rest_is i.first_proper (i.calls c.args.below calls).0 in
       let l = c.measure-in-If-2.ensures.measured p Φ following (i.scope Φ bodies Γ) i.second end enc out well cut n m.3 i.second_proper (i.calls c.args.below calls).1 in
-      measured_more end c.args.so_far c.in_ok-with_first.with_first c.measure-in-If-2.result (unfold_expr Φ bodies Γ i.first) (unfold_expr Φ bodies (i.scope Φ bodies Γ) i.second) (unfold_expr Φ bodies Γ e)
+      measured_more end c.args.so_far c.in_ok-with_first-in-If.with_first c.measure-in-If-2.result (unfold_expr Φ bodies Γ i.first) (unfold_expr Φ bodies (i.scope Φ bodies Γ) i.second) (unfold_expr Φ bodies Γ e)
       (omega (arith, m.0, k.1)) (omega (arith, m.1, k.2)) (i.sizes Φ bodies Γ) (i.numbers Φ bodies Γ) l;
   shorter =
       IfOk-weaker c.measure-in-If-2.result _ _
-      (λ x h. omega (arith, c.in_ok-with_first.ensures.shorter, c.in_ok-command.ensures.shorter))
+      (λ x h. omega (arith, c.in_ok-with_first-in-If.ensures.shorter, c.in_ok-command.ensures.shorter))
       c.measure-in-If-2.ensures.shorter;
   within = c.measure-in-If-2.ensures.within;
 }
