@@ -86,7 +86,7 @@ pub fn replay_and_ask<'a, W: Weight>(
     findings: &mut Findings<W>,
 ) -> Book<'a>
     ensures lawful { AllLawful (min (length nodes.old) 16384) nothing (told calls.now answers.new) }
-    ensures odds { Counted meaning nought unit plus times (standing nothing (told calls.now answers.new)) findings.new.used inquiry.now.question inquiry.now.yes.now inquiry.now.no.now cells.old cells.new findings.old.sum findings.new.sum findings.new.counted }
+    ensures odds { Counted W.meaning W.nought W.unit W.plus W.times (standing nothing (told calls.now answers.new)) findings.new.used inquiry.now.question inquiry.now.yes.now inquiry.now.no.now cells.old cells.new findings.old.sum findings.new.sum findings.new.counted }
     ensures alike { Likened (standing nothing (told calls.now answers.new)) inquiry.now.question inquiry.now.other findings.new.alike }
     ensures mark { Fewest (standing nothing (told calls.now answers.new)).formulas findings.new.used }
     ensures right { Right (standing nothing (told calls.now answers.new)) (seen result) }
