@@ -1,6 +1,6 @@
 -- What checking asks of the types and functions that the code holds.
-use Rattle.std.proofs.Common.{◌≡◌, ℕ, zero, suc, ◌+◌, ◌<◌, ◌≤◌, Bool, true, false, leb, List, [], ◌∷◌, ◌++◌, length, get_or, Some, None, Ok, Err, Decides, Option as StdOption, sym, refl, ap, ◌∙◌, subst, append-nil, le_of_suc-le-suc, not-suc-le-zero, arith, le-leb}
-use mathlib.Core.Option.{Option, some, none}
+use Rattle.std.proofs.Common.{◌≡◌, ℕ, zero, suc, ◌+◌, ◌<◌, ◌≤◌, Bool, true, false, leb, List, [], ◌∷◌, ◌++◌, length, get_or, Some, None, Ok, Decides, Option as StdOption, sym, refl, ap, ◌∙◌, subst, le_of_suc-le-suc, not-suc-le-zero, le-leb}
+use mathlib.Core.Option.{some, none}
 use Rattle.std.specs.Option.{ok_or}
 use borrow.Author.Tests.{lt-leb}
 use Rattle.language.specs.declared.types.TypeCode.{TypeCode}
@@ -8,7 +8,7 @@ use Rattle.language.specs.declared.reading.FunctionOutline.{FunctionOutline}
 use Rattle.language.specs.declared.fault.TypeFault.TheVariants.{OverLimit}
 use Rattle.language.specs.Outlines.{type_bytes, Coded, AllCoded, PairCoded, Types, AllOutlined, Outlined, no_type, no_function}
 use Rattle.language.specs.Reading.{type_from}
-use Rattle.language.specs.Syntax.{Ty, bool, product, leaves, encode_ty, Function, place_after}
+use Rattle.language.specs.Syntax.{Ty, product, leaves, encode_ty, Function, place_after}
 use Rattle.language.specs.Typing.{at, same_type, need}
 use Rattle.language.proofs.Results.{ok_same}
 use Rattle.language.proofs.Encoding.{type_complete}

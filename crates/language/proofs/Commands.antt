@@ -1,8 +1,8 @@
 -- What the patterns of the code take apart, and what the table of commands gives there.
-use Rattle.std.proofs.Common.{◌≡◌, ℕ, ◌-◌, ◌<◌, List, [], ◌∷◌, length, get_or, take, drop, Ok, sym, refl, ap, ◌∙◌, le_of_suc-le-suc, not-suc-le-zero, length-drop}
+use Rattle.std.proofs.Common.{◌≡◌, ℕ, ◌-◌, ◌<◌, List, [], ◌∷◌, length, get_or, take, drop, Ok, sym, ap, ◌∙◌, le_of_suc-le-suc, not-suc-le-zero, length-drop}
 use Rattle.std.proofs.lemmas.List.{take_rest}
 use Rattle.language.specs.declared.command.Command.{Command}
-use Rattle.language.specs.Reading.{Read, command_of, command_from}
+use Rattle.language.specs.Reading.{command_of, command_from}
 
 -- the bytes after the first n
 abbrev pub after : ℕ → List ℕ → List ℕ

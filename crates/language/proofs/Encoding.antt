@@ -1,22 +1,20 @@
 -- What is read is what was encoded, for each part of a program.
-use Rattle.std.proofs.Common.{◌≡◌, ℕ, zero, suc, ◌+◌, ◌-◌, ◌<◌, ◌≤◌, Bool, true, false, cond, eqb, leb, List, [], ◌∷◌, ◌++◌, length, get_or, Ok, Err, Result, sym, refl, ap, ◌∙◌, subst, append_assoc, arith, length-append, ne_eqb, eqb-true, le-leb, leb-true}
+use Rattle.std.proofs.Common.{◌≡◌, ℕ, zero, suc, ◌+◌, ◌-◌, ◌<◌, ◌≤◌, Bool, true, false, cond, eqb, leb, List, [], ◌∷◌, ◌++◌, length, get_or, Ok, Err, sym, refl, ap, ◌∙◌, subst, append_assoc, arith, length-append, ne_eqb, eqb-true, le-leb, leb-true}
 use borrow.Author.Tests.{eqb-false}
 use Rattle.std.proofs.lemmas.List.{take_rest}
-use Rattle.language.specs.declared.fault.ReadFault.{ReadFault}
-use Rattle.language.specs.declared.fault.ReadFault.TheVariants.{Ends, Unknown, TooWide}
+use Rattle.language.specs.declared.fault.ReadFault.TheVariants.{TooWide}
 use Rattle.language.specs.declared.command.Operand.{Operand}
 use Rattle.language.specs.declared.command.Operand.TheVariants.{False, True, Name}
-use Rattle.language.specs.declared.command.Simple.{Simple}
 use Rattle.language.specs.declared.command.Simple.TheVariants.{Atom, Pair, First, Second, Flip, Observe, Call}
 use Rattle.language.specs.declared.command.Command.{Command}
 use Rattle.language.specs.declared.command.Command.TheVariants as commands
 use Rattle.language.specs.Outcomes.{and_then}
 use Rattle.language.specs.Syntax.{Ty, bool, product, leaves, encode_ty, operand_byte, encode_simple, Expr, plain, branch, bind, encode_expr, Function, encode_function, encode_functions, ProperOperand, ProperSimple, Proper, Readable, AllReadable}
-use Rattle.language.specs.Reading.{Read, operand_of, with_one, with_two, command_of, command_from, Front, done, fork, grow, tree_from, type_front, type_from, narrow_from, front_of, expr_front, expr_from, function_from, functions_from}
+use Rattle.language.specs.Reading.{Read, operand_of, with_one, with_two, command_from, Front, done, fork, grow, tree_from, type_front, type_from, narrow_from, front_of, expr_front, expr_from, function_from, functions_from}
 use Rattle.language.proofs.Commands.{after}
 use Rattle.language.proofs.Results.{clash, ok_same, then_ok, then_at}
 use Rattle.language.proofs.Trees.{Shortens, tree_grows, tree_short, fork_both}
-use Rattle.language.proofs.ReadingTypes.{type_grows, type_front_short}
+use Rattle.language.proofs.ReadingTypes.{type_grows}
 
 -- Operands.
 

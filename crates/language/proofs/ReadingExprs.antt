@@ -1,5 +1,5 @@
 -- Reading an expression.
-use Rattle.std.proofs.Common.{◌≡◌, ℕ, ◌⊎◌, List, IsErrAnd, Ok, Err, Result, sym, refl, ap, ◌∙◌, inl, inr, Bor}
+use Rattle.std.proofs.Common.{◌≡◌, ℕ, ◌⊎◌, List, IsErrAnd, Ok, Err, Result, sym, ap, ◌∙◌, inl, inr, Bor}
 use Rattle.language.specs.declared.fault.ReadFault.{ReadFault}
 use Rattle.language.specs.Outlines.{Passes}
 use Rattle.language.specs.declared.command.Operand.{Operand}

@@ -1,17 +1,17 @@
 -- Reading a whole program.
-use Rattle.std.proofs.Common.{◌≡◌, ℕ, zero, suc, ◌+◌, ◌-◌, ◌<◌, ◌≤◌, Bool, true, false, cond, leb, ◌↔◌, List, [], ◌∷◌, ◌++◌, length, get_or, is_ok, IsErrAnd, IfOk, Ok, Err, Result, sym, refl, ap, ◌∙◌, subst, append-nil, not-suc-le-zero, arith, length-append, le-leb, leb-true}
+use Rattle.std.proofs.Common.{◌≡◌, ℕ, suc, ◌-◌, ◌<◌, ◌≤◌, Bool, true, false, cond, leb, ◌↔◌, List, [], ◌∷◌, ◌++◌, length, get_or, is_ok, IsErrAnd, IfOk, Ok, Err, Result, sym, refl, ap, ◌∙◌, subst, append-nil, not-suc-le-zero, arith, le-leb, leb-true}
 use Rattle.std.proofs.lemmas.Bool.{false≢true}
 use Rattle.std.proofs.lemmas.List.{take_rest}
 use Rattle.language.specs.declared.fault.ReadFault.{ReadFault}
-use Rattle.language.specs.declared.fault.ReadFault.TheVariants.{TooLong, Ends, Unknown, Trailing}
+use Rattle.language.specs.declared.fault.ReadFault.TheVariants.{TooLong, Unknown, Trailing}
 use Rattle.language.specs.declared.reading.Outline.{Outline}
 use Rattle.language.specs.Outcomes.{and_then}
 use Rattle.language.specs.Outlines.{Reads}
-use Rattle.language.specs.Syntax.{Function, Expr, Program, encode, encode_expr, encode_functions, AllReadable, Proper, WithinReading}
-use Rattle.language.specs.Reading.{Read, expr_from, functions_from, closed, main_from, program_from, tree_of}
+use Rattle.language.specs.Syntax.{Function, Expr, Program, encode, encode_expr, encode_functions, WithinReading}
+use Rattle.language.specs.Reading.{expr_from, functions_from, closed, main_from, program_from, tree_of}
 use Rattle.language.specs.Grammar.{ReadingExact, ByGrammar}
 use Rattle.language.proofs.Commands.{after}
-use Rattle.language.proofs.Results.{clash, ok_same, then_at, then_err, then_ok}
+use Rattle.language.proofs.Results.{clash, ok_same, then_at, then_ok}
 use Rattle.language.proofs.Encoding.{expr_sound, expr_complete, functions_sound, functions_complete}
 
 pub broke_reads : {out : Result Program ReadFault} (r : Result Outline ReadFault) (e : ReadFault) → IsErrAnd r (λ y. y ≡ e) → out ≡ Err e → Reads r out

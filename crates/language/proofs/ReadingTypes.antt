@@ -1,10 +1,9 @@
 -- Reading a type.
-use Rattle.std.proofs.Common.{◌≡◌, ℕ, zero, suc, ◌-◌, ◌<◌, ◌≤◌, Bool, true, false, cond, eqb, List, [], ◌∷◌, length, get_or, Ok, Err, Result, sym, refl, ap, ◌∙◌, le_refl, le_of_suc-le-suc, not-suc-le-zero, arith, ne_eqb}
-use Rattle.language.specs.declared.fault.ReadFault.{ReadFault}
+use Rattle.std.proofs.Common.{◌≡◌, ℕ, suc, ◌-◌, ◌<◌, Bool, true, false, cond, eqb, List, [], ◌∷◌, length, get_or, Ok, Err, refl, ap, ◌∙◌, le_of_suc-le-suc, not-suc-le-zero, arith, ne_eqb}
 use Rattle.language.specs.declared.fault.ReadFault.TheVariants.{Ends, Unknown}
 use Rattle.language.specs.Outcomes.{and_then}
 use Rattle.language.specs.Syntax.{Ty, bool, product}
-use Rattle.language.specs.Reading.{Read, Front, done, fork, grow, type_front, type_from}
+use Rattle.language.specs.Reading.{Front, done, fork, grow, type_front, type_from}
 use Rattle.language.proofs.Commands.{after, cut_one}
 use Rattle.language.proofs.Results.{clash, ok_same, then_at, then_err}
 use Rattle.language.proofs.Trees.{Shortens, tree_grows, tree_short}

@@ -1,5 +1,5 @@
 -- Typing a program's bytes: what is accepted is what the rules derive.
-use Rattle.std.proofs.Common.{◌≡◌, ℕ, ◌≤◌, Bool, true, false, ◌↔◌, List, [], length, is_ok, IsErrAnd, IfOk, Ok, Err, Result, sym, refl, ap, ◌∙◌, subst, arith}
+use Rattle.std.proofs.Common.{◌≡◌, ℕ, ◌≤◌, true, ◌↔◌, List, [], length, is_ok, IsErrAnd, IfOk, Ok, Err, Result, sym, refl, ap, ◌∙◌, subst, arith}
 use Rattle.std.proofs.lemmas.Bool.{false≢true}
 use Rattle.language.specs.declared.fault.ReadFault.{ReadFault}
 use Rattle.language.specs.declared.fault.TypeFault.{TypeFault}
@@ -9,7 +9,7 @@ use Rattle.language.specs.Grammar.{Encodes}
 use Rattle.language.specs.Outcomes.{and_then}
 use Rattle.language.specs.Syntax.{Ty, Program, place_after}
 use Rattle.language.specs.Reading.{tree_of}
-use Rattle.language.specs.Typing.{WellTyped, Checked, check, checked_bodies, checked_program}
+use Rattle.language.specs.Typing.{WellTyped, check, checked_bodies, checked_program}
 use Rattle.language.specs.TypedPrograms.{OutlinesTyped, ByRules}
 use Rattle.language.specs.Unfolding.{from_reading, typed_of}
 use Rattle.language.proofs.Results.{clash, ok_same, then_at, then_err, then_ok}

@@ -15,8 +15,8 @@ use Rattle.language.specs.Grammar.{Encodes}
 use Rattle.language.specs.Outlines.{Outlines, no_function}
 use Rattle.language.specs.Syntax.{Ty, Expr, plain, branch, bind, encode_expr, Function, Program, Proper}
 use Rattle.language.specs.Reading.{command_from}
-use Rattle.language.specs.Typing.{At, here, later, Has, Typed, is_atom, is_pair, is_first, is_second, is_flip, is_observe, is_call, is_if, is_let, Bodies, no_more, body, WellTyped, check}
-use Rattle.language.specs.Unfolding.{Tree, atom, pair, first, second, flip, observe, call, choice, binding, size, flips, body_at, found_type, unfold_simple, unfold_expr, unfold_body, unfold_bodies, bodies_of, CallBelow, CallsBelow, WellCalled}
+use Rattle.language.specs.Typing.{At, here, later, Typed, is_atom, is_pair, is_first, is_second, is_flip, is_observe, is_call, is_if, is_let, Bodies, no_more, body, WellTyped, check}
+use Rattle.language.specs.Unfolding.{Tree, atom, pair, first, second, flip, observe, call, choice, binding, size, flips, body_at, found_type, unfold_simple, unfold_expr, unfold_body, unfold_bodies, bodies_of, CallsBelow, WellCalled}
 use Rattle.language.proofs.CheckSteps.{cut_at}
 use Rattle.language.proofs.Heads.{PartsAt, if_at, let_at}
 use Rattle.language.proofs.Lies.{body_ready}

@@ -1,10 +1,9 @@
 -- Reading from left to right: the tree of a program, or the first fault with its place.
-use Rattle.std.specs.Prelude.{ℕ, zero, suc, ◌-◌, cond, List, [], ◌∷◌, ◌++◌, length, Ok, Err, Result, ◌==◌, nat_le}
+use Rattle.std.specs.Prelude.{ℕ, zero, suc, ◌-◌, cond, List, [], ◌∷◌, length, Ok, Err, Result, ◌==◌, nat_le}
 use Rattle.language.specs.declared.fault.ReadFault.{ReadFault}
 use Rattle.language.specs.declared.fault.ReadFault.TheVariants.{TooLong, Ends, Unknown, TooWide, Trailing}
 use Rattle.language.specs.declared.command.Operand.{Operand}
 use Rattle.language.specs.declared.command.Operand.TheVariants.{False, True, Name}
-use Rattle.language.specs.declared.command.Simple.{Simple}
 use Rattle.language.specs.declared.command.Simple.TheVariants.{Atom, Pair, First, Second, Flip, Observe, Call}
 use Rattle.language.specs.declared.command.Command.{Command}
 use Rattle.language.specs.declared.command.Command.TheVariants as commands

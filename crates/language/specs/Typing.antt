@@ -1,5 +1,5 @@
 -- Typing: the rules as a relation, and checking, which finds the first fault.
-use Rattle.std.specs.Prelude.{◌≡◌, ℕ, zero, suc, ◌+◌, ◌<◌, ◌≤◌, Bool, true, false, cond, ◌&&◌, List, [], ◌∷◌, ◌++◌, length, Ok, Err, Result, nat_le, nat_lt}
+use Rattle.std.specs.Prelude.{ℕ, zero, suc, ◌+◌, ◌<◌, ◌≤◌, Bool, true, false, cond, ◌&&◌, List, [], ◌∷◌, ◌++◌, length, Ok, Err, Result, nat_le, nat_lt}
 use Rattle.std.proofs.Math.Option.{Option, some, none}
 use Rattle.language.specs.declared.fault.TypeFault.{TypeFault}
 use Rattle.language.specs.declared.fault.TypeFault.TheVariants.{OutOfScope, Mistyped, NoFunction, OverLimit}

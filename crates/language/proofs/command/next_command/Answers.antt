@@ -1,7 +1,6 @@
-use Rattle.std.proofs.Common.{◌≡◌, get_or, refl, ap, rules}
+use Rattle.std.proofs.Common.{get_or, refl, ap, rules}
 use Rattle.language.specs.declared.command.Operand.{Operand}
 use Rattle.language.specs.declared.command.Simple.TheVariants.{Atom, Pair, First, Second, Flip, Observe, Call}
-use Rattle.language.specs.declared.command.Command.{Command}
 use Rattle.language.specs.declared.command.Command.TheVariants as commands
 use Rattle.language.specs.Reading.{operand_of}
 use Rattle.language.proofs.Commands.{no_operand, one_operand, two_operands}

@@ -1,4 +1,4 @@
-use Rattle.std.proofs.Common.{◌≡◌, Ok, Err, sym, refl, ap, ◌∙◌}
+use Rattle.std.proofs.Common.{Ok}
 use Rattle.language.proofs.AcceptedBytes.{inspects_well, broke_inspecting}
 use Rattle.language.proofs.inspecting.inspect.Goals as goal
 

@@ -1,8 +1,8 @@
-use Rattle.std.proofs.Common.{◌≡◌, ℕ, sym, refl, ap, ◌∙◌, arith, rules}
+use Rattle.std.proofs.Common.{ap, ◌∙◌, arith}
 use Rattle.std.proofs.lemmas.Result.{IfOk-from_err, IfOk-weaker}
 use Rattle.language.specs.declared.command.Command.{Command}
-use Rattle.language.specs.Syntax.{plain, Expr}
-use Rattle.language.specs.Reading.{Front, done, fork, grow, front_of, expr_from}
+use Rattle.language.specs.Syntax.{plain}
+use Rattle.language.specs.Reading.{grow, front_of, expr_from}
 use Rattle.language.proofs.Results.{as_read, then_err}
 use Rattle.language.proofs.Trees.{fork_first}
 use Rattle.language.proofs.Encoding.{expr_grows, expr_after}

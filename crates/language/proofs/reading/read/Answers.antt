@@ -1,4 +1,4 @@
-use Rattle.std.proofs.Common.{◌≡◌, ℕ, ◌-◌, ◌<◌, ◌≤◌, length, get_or, Ok, Err, sym, refl, ap, ◌∙◌, arith, length-append, rules}
+use Rattle.std.proofs.Common.{◌-◌, ◌<◌, length, get_or, Ok, Err, sym, ap, ◌∙◌, arith, length-append, rules}
 use Rattle.language.specs.declared.fault.ReadFault.TheVariants.{TooLong, Ends, Unknown, Trailing}
 use Rattle.language.specs.Syntax.{encode_functions}
 use Rattle.language.specs.Reading.{main_from}

@@ -1,4 +1,4 @@
-use Rattle.std.proofs.Common.{◌≡◌, ℕ, ◌+◌, ◌-◌, length, sym, refl, ap, ◌∙◌, arith, length-append}
+use Rattle.std.proofs.Common.{length, ap, arith, length-append}
 use Rattle.language.specs.Syntax.{encode_ty}
 use Rattle.language.proofs.Encoding.{narrow_ok, type_sound, function_parts}
 use Rattle.language.proofs.reading.read_function.Goals as goal

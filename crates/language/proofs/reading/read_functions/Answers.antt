@@ -1,11 +1,9 @@
-use Rattle.std.proofs.Common.{◌≡◌, ℕ, suc, ◌+◌, ◌-◌, ◌<◌, ◌≤◌, List, [], ◌∷◌, ◌++◌, length, get_or, set, sym, refl, ap, ◌∙◌, subst, arith, length-append, length-set, rules}
+use Rattle.std.proofs.Common.{◌≡◌, ℕ, suc, ◌+◌, ◌-◌, [], ◌∷◌, ◌++◌, length, set, sym, refl, ap, ◌∙◌, subst, arith, length-append, length-set, rules}
 use native.Mathlib.Nat.{sub-zero}
 use Rattle.std.proofs.lemmas.Result.{IfOk-from_err}
 use Rattle.std.proofs.lemmas.List.{length_push}
-use Rattle.language.specs.declared.reading.FunctionOutline.{FunctionOutline}
 use Rattle.language.specs.Outlines.{Outlined, AllOutlined}
-use Rattle.language.specs.Reading.{functions_from}
-use Rattle.language.specs.Syntax.{Function, encode_function, encode_functions, place_after}
+use Rattle.language.specs.Syntax.{encode_function, encode_functions, place_after}
 use Rattle.language.proofs.Results.{broke}
 use Rattle.language.proofs.Encoding.{function_sound}
 use Rattle.language.proofs.ReadingFunctions.{to_come, to_come_first, to_come_more, to_come_fault, to_come_none, outlined_more, no_cut, encode_functions_append}

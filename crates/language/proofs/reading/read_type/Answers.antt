@@ -1,8 +1,8 @@
-use Rattle.std.proofs.Common.{◌≡◌, ℕ, ◌+◌, ◌-◌, ◌<◌, ◌≤◌, Bool, cond, List, ◌++◌, length, take, Ok, Err, sym, refl, ap, ◌∙◌, arith, length-append, le-leb}
+use Rattle.std.proofs.Common.{◌≡◌, ℕ, ◌-◌, ◌≤◌, Bool, cond, List, length, take, Ok, Err, ap, ◌∙◌, arith, length-append, le-leb}
 use Rattle.std.proofs.lemmas.List.{take_at}
 use Rattle.language.specs.declared.fault.ReadFault.TheVariants.{TooWide}
 use Rattle.language.specs.Syntax.{Ty, leaves, encode_ty}
-use Rattle.language.specs.Reading.{Read, type_from}
+use Rattle.language.specs.Reading.{type_from}
 use Rattle.language.proofs.Results.{then_at}
 use Rattle.language.proofs.ReadingTypes.{type_short}
 use Rattle.language.proofs.Encoding.{type_sound, type_length}

@@ -1,4 +1,4 @@
-use Rattle.std.proofs.Common.{◌≡◌, ℕ, ◌+◌, ◌-◌, ◌<◌, ◌≤◌, true, false, List, [], ◌∷◌, ◌++◌, length, take, Ok, Err, sym, refl, ap, ◌∙◌, subst, arith, rules}
+use Rattle.std.proofs.Common.{◌≡◌, ℕ, ◌+◌, ◌-◌, ◌≤◌, true, false, List, [], ◌∷◌, ◌++◌, length, take, Ok, sym, ap, ◌∙◌, subst, arith}
 use native.Mathlib.Nat.{sub-zero}
 use Rattle.std.proofs.lemmas.Result.{IfOk-from_err, IfOk-weaker}
 use Rattle.language.specs.declared.types.TypeCode.{TypeCode}
@@ -10,7 +10,7 @@ use Rattle.language.specs.Syntax.{Expr, Function, Ty, Proper, encode_expr, branc
 use Rattle.language.specs.Reading.{Read, command_from}
 use Rattle.language.specs.Typing.{check, Checked}
 use Rattle.language.proofs.Results.{as_read}
-use Rattle.language.proofs.Heads.{SimpleAt, PartsAt, head_there, simple_at, if_at, let_at}
+use Rattle.language.proofs.Heads.{PartsAt, head_there, simple_at, if_at, let_at}
 use Rattle.language.proofs.CheckSteps.{same_coded, scope_length, scope_more}
 use Rattle.language.proofs.CheckExprs.{broke_past, past_same, check_plain, guard_fault, first_arm_fault, second_arm_fault, arms_agree, first_part_fault, names_over, second_part}
 use Rattle.language.proofs.typing.+check_expression.Goals as goal

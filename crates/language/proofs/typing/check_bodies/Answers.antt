@@ -1,9 +1,8 @@
-use Rattle.std.proofs.Common.{◌≡◌, ℕ, ◌+◌, ◌<◌, ◌≤◌, List, [], ◌∷◌, ◌++◌, length, Ok, Err, Result, sym, refl, ap, ◌∙◌, subst, append_assoc, append-nil, arith, length-append}
+use Rattle.std.proofs.Common.{◌≡◌, ℕ, ◌+◌, ◌<◌, ◌≤◌, List, [], ◌∷◌, ◌++◌, length, Err, sym, refl, ap, ◌∙◌, append_assoc, arith, length-append}
 use Rattle.std.proofs.lemmas.Result.{err_from_is_err_and}
 use Rattle.std.proofs.lemmas.List.{length_push}
-use Rattle.language.specs.declared.fault.TypeFault.{TypeFault}
-use Rattle.language.specs.Syntax.{Function, Program}
-use Rattle.language.specs.Typing.{Checked, checked_body, checked_bodies}
+use Rattle.language.specs.Syntax.{Function}
+use Rattle.language.specs.Typing.{checked_bodies}
 use Rattle.language.proofs.Results.{then_at, then_err}
 use Rattle.language.proofs.typing.check_bodies.Goals as goal
 

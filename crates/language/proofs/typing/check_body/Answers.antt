@@ -1,10 +1,9 @@
-use Rattle.std.proofs.Common.{◌≡◌, ℕ, ◌≤◌, Bool, [], ◌∷◌, length, get_or, Ok, Err, sym, refl, ap, ◌∙◌, subst, arith, length-drop, rules}
+use Rattle.std.proofs.Common.{ℕ, Bool, [], ◌∷◌, length, get_or, Ok, Err, sym, ap, ◌∙◌, arith, length-drop, rules}
 use Rattle.std.proofs.lemmas.Result.{err_from_is_err_and}
-use Rattle.language.specs.declared.fault.TypeFault.{TypeFault}
 use Rattle.language.specs.declared.fault.TypeFault.TheVariants.{Mistyped}
 use Rattle.language.specs.Outlines.{no_function}
 use Rattle.language.specs.Syntax.{body_place, place_after}
-use Rattle.language.specs.Typing.{Checked, check, checked_body, same_type, need as needs_that}
+use Rattle.language.specs.Typing.{check, same_type, need as needs_that}
 use Rattle.language.proofs.Results.{then_at, then_err}
 use Rattle.language.proofs.CheckSteps.{same_coded}
 use Rattle.language.proofs.Lies.{body_ready}

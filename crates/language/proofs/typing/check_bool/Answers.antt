@@ -1,4 +1,4 @@
-use Rattle.std.proofs.Common.{◌≡◌, Bool, Ok, sym, refl, ap, ◌∙◌}
+use Rattle.std.proofs.Common.{Bool, Ok, sym, refl, ap, ◌∙◌}
 use Rattle.language.specs.declared.fault.TypeFault.TheVariants.{Mistyped}
 use Rattle.language.specs.Syntax.{bool}
 use Rattle.language.specs.Typing.{same_type, need as needs_that}

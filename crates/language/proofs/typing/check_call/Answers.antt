@@ -1,4 +1,4 @@
-use Rattle.std.proofs.Common.{◌≡◌, Bool, get_or, Ok, sym, refl, ap, ◌∙◌, arith}
+use Rattle.std.proofs.Common.{Bool, get_or, Ok, ap, ◌∙◌, arith}
 use Rattle.language.specs.declared.fault.TypeFault.TheVariants.{Mistyped, NoFunction}
 use Rattle.language.specs.Outlines.{no_function}
 use Rattle.language.specs.Typing.{same_type, or_fault, need as needs_that}

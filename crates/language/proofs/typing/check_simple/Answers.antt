@@ -1,4 +1,4 @@
-use Rattle.std.proofs.Common.{◌≡◌, ◌+◌, leb, Ok, Result, sym, ap, ◌∙◌, subst}
+use Rattle.std.proofs.Common.{◌+◌, leb, Ok, Result, sym, ap, ◌∙◌, subst}
 use Rattle.language.specs.declared.types.TypeCode.{TypeCode}
 use Rattle.language.specs.declared.fault.TypeFault.{TypeFault}
 use Rattle.language.specs.Outlines.{Types}

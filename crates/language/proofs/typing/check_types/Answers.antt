@@ -1,4 +1,4 @@
-use Rattle.std.proofs.Common.{◌≡◌, ℕ, List, [], length, Ok, Err, sym, refl, ap, ◌∙◌, arith, length-drop, rules}
+use Rattle.std.proofs.Common.{ℕ, [], length, Ok, sym, ap, ◌∙◌, arith, length-drop, rules}
 use Rattle.language.specs.declared.fault.TypeFault.{TypeFault}
 use Rattle.language.specs.declared.fault.TypeFault.TheVariants.{Reading}
 use Rattle.language.specs.Typing.{check}

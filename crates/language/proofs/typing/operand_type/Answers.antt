@@ -1,8 +1,6 @@
-use Rattle.std.proofs.Common.{◌≡◌, sym, refl, ap, ◌∙◌, arith, rules}
-use mathlib.Core.Option.{Option}
-use Rattle.language.specs.declared.command.Operand.{Operand}
+use Rattle.std.proofs.Common.{ap, ◌∙◌, arith, rules}
 use Rattle.language.specs.declared.fault.TypeFault.TheVariants.{OutOfScope}
-use Rattle.language.specs.Typing.{at, or_fault, type_of_operand}
+use Rattle.language.specs.Typing.{or_fault, type_of_operand}
 use Rattle.language.proofs.CheckSteps.{scope_at, scope_length, at_past}
 use Rattle.language.proofs.typing.operand_type.Goals as goal
 

@@ -1,17 +1,15 @@
-use Rattle.std.proofs.Common.{◌≡◌, ℕ, suc, ◌+◌, ◌<◌, ◌≤◌, List, [], ◌∷◌, ◌++◌, length, get_or, Ok, Err, sym, refl, ap, ◌∙◌, subst, arith, length-drop, rules}
+use Rattle.std.proofs.Common.{◌≡◌, ℕ, ◌<◌, ◌≤◌, List, [], ◌∷◌, ◌++◌, length, get_or, Ok, ap, ◌∙◌, subst, arith, length-drop, rules}
 use Rattle.std.proofs.lemmas.Result.{IfOk-from_err, IfOk-weaker}
-use Rattle.language.specs.declared.command.Operand.{Operand}
 use Rattle.language.specs.declared.command.Simple.{Simple}
-use Rattle.language.specs.declared.command.Simple.TheVariants.{Flip, Call}
 use Rattle.language.specs.declared.command.Command.{Command}
 use Rattle.language.specs.declared.command.Command.TheVariants as commands
 use Rattle.language.specs.Outlines.{no_function}
 use Rattle.language.specs.Syntax.{Ty, Expr, plain, encode_expr, Function, Proper}
-use Rattle.language.specs.Reading.{Read, command_from}
-use Rattle.language.specs.Unfolding.{Tree, size, flips, unfold_simple, unfold_expr, body_at, bodies_of, CallsBelow}
+use Rattle.language.specs.Reading.{command_from}
+use Rattle.language.specs.Unfolding.{size, flips, unfold_simple, unfold_expr, bodies_of, CallsBelow}
 use Rattle.language.proofs.Results.{as_read}
 use Rattle.language.proofs.Heads.{SimpleAt, head_there, simple_at}
-use Rattle.language.proofs.Unfolds.{some_size, simple_tree, other_simple, Splits, splits, call_ready, broke_measured, measured_more}
+use Rattle.language.proofs.Unfolds.{some_size, simple_tree, other_simple, splits, call_ready, broke_measured, measured_more}
 use Rattle.language.proofs.unfolding.+measure.Goals as goal
 
 -- the simple command that was read

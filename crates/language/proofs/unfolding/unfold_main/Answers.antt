@@ -1,9 +1,6 @@
-use Rattle.std.proofs.Common.{◌≡◌, ℕ, ◌+◌, ◌<◌, ◌≤◌, List, [], ◌∷◌, length, Ok, Err, sym, refl, ap, ◌∙◌, subst, append-nil, arith, length-drop, rules}
-use Rattle.language.specs.declared.fault.TypeFault.{TypeFault}
-use Rattle.language.specs.declared.fault.UnfoldFault.{UnfoldFault}
-use Rattle.language.specs.declared.fault.UnfoldFault.TheVariants.{Typing, Size, Flips}
-use Rattle.language.specs.Syntax.{Program}
-use Rattle.language.specs.Unfolding.{CallsBelow, size, flips, unfolded}
+use Rattle.std.proofs.Common.{ℕ, [], length, Ok, Err, sym, ap, ◌∙◌, subst, append-nil, arith, length-drop, rules}
+use Rattle.language.specs.declared.fault.UnfoldFault.TheVariants.{Typing, Flips}
+use Rattle.language.specs.Unfolding.{CallsBelow}
 use Rattle.language.proofs.TypedBytes.{typed_sound}
 use Rattle.language.proofs.Lies.{main_ready}
 use Rattle.language.proofs.Unfolds.{well_called, typed_calls}

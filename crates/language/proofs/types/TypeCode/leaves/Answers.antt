@@ -1,4 +1,4 @@
-use Rattle.std.proofs.Common.{◌≡◌, length, ap, arith, rules}
+use Rattle.std.proofs.Common.{length, ap, arith, rules}
 use Rattle.language.proofs.Encoding.{type_length}
 use Rattle.language.proofs.types.TypeCode.leaves.Goals as goal
 

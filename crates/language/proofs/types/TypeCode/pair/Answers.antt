@@ -1,6 +1,6 @@
-use Rattle.std.proofs.Common.{◌≡◌, ℕ, suc, ◌+◌, ◌≤◌, List, ◌∷◌, ◌++◌, length, take, drop, sym, refl, ap, ◌∙◌, append_assoc, arith, length-append}
+use Rattle.std.proofs.Common.{◌≡◌, ℕ, ◌+◌, List, ◌∷◌, ◌++◌, length, take, drop, sym, ap, ◌∙◌, append_assoc, arith, length-append}
 use Rattle.std.proofs.lemmas.List.{take_at}
-use Rattle.language.specs.Syntax.{leaves, encode_ty}
+use Rattle.language.specs.Syntax.{encode_ty}
 use Rattle.language.proofs.Encoding.{type_length}
 use Rattle.language.proofs.types.TypeCode.pair.Goals as goal
 
