@@ -14,15 +14,37 @@ use Rattle.line_book.specs.Histories.{History}
 
 -- the ghost fields, in their order
 abbrev pub Carries : Table → List Entry → ℕ → List Question → ℕ → Type 0
-Carries t es k qs m =
-    (t.used ≤ length t.nodes.now) × ((t.used ≤ 16384) × ((k ≤ 8) × ((m ≤ 64) × ((length es ≡ 8) × ((length qs ≡ 64) × (Reduced (in_use t) × (∥ Unique (in_use t) ∥₁
-    × (∥ Ordered (in_use t) ∥₁ × (∥ BlankFrom t.nodes.now t.used ∥₁ × (∥ MemoSound (in_use t) t.memo.now ∥₁
-    × (∥ ((h : History) × Came h (view t es k qs m)) ∥₁ × Unit {0})))))))))))
+Carries t es k qs m = record {
+  fits : t.used ≤ length t.nodes.now;
+  small : t.used ≤ 16384;
+  few : k ≤ 8;
+  limited : m ≤ 64;
+  slots : length es ≡ 8;
+  places : length qs ≡ 64;
+  reduced : Reduced (in_use t);
+  unique : ∥ Unique (in_use t) ∥₁;
+  ordered : ∥ Ordered (in_use t) ∥₁;
+  blank : ∥ BlankFrom t.nodes.now t.used ∥₁;
+  memo : ∥ MemoSound (in_use t) t.memo.now ∥₁;
+  came : ∥ ((h : History) × Came h (view t es k qs m)) ∥₁;
+}
 
 pub carries : (t : Table) (es : List Entry) (k : ℕ) (qs : List Question) (m : ℕ) → Valid t → k ≤ 8 → m ≤ 64 → length es ≡ 8 → length qs ≡ 64 →
     ∥ ((h : History) × Came h (view t es k qs m)) ∥₁ → Carries t es k qs m
-carries t es k qs m v few limited slots places came =
-    (v.fits, (v.small, (few, (limited, (slots, (places, (v.sound.reduced, (∣ v.sound.unique ∣₁, (∣ v.sound.ordered ∣₁, (∣ v.blank ∣₁, (∣ v.known ∣₁, (came, tt))))))))))))
+carries t es k qs m v few limited slots places came = record {
+  fits = v.fits;
+  small = v.small;
+  few = few;
+  limited = limited;
+  slots = slots;
+  places = places;
+  reduced = v.sound.reduced;
+  unique = ∣ v.sound.unique ∣₁;
+  ordered = ∣ v.sound.ordered ∣₁;
+  blank = ∣ v.blank ∣₁;
+  memo = ∣ v.known ∣₁;
+  came = came;
+}
 
 node_same : (n m : Node) → n.flip ≡ m.flip → n.low ≡ m.low → n.high ≡ m.high → n ≡ m
 node_same n m f l h = λ i. record { flip = f i; low = l i; high = h i }

@@ -4,7 +4,23 @@ ghost use Rattle.line_book.specs.declared.fault.BookFault.TheVariants.{Unfolding
 ghost use Rattle.std.specs.Prelude.{◌≡◌};
 
 use diagram::Full;
-use language::fault::{Fault, Layer, Refusal, UnfoldFault};
+use language::fault::{Fault, Layer as ProgramLayer, UnfoldFault};
+
+// The layer that refuses a call: one of those that refuse a program, the book, or counting.
+#[derive(Clone, Copy, Debug, PartialEq, Eq)]
+pub enum Layer {
+    Program(ProgramLayer),
+    Book,
+    Counting,
+}
+
+// A refusal as it is reported: its number, the layer that it comes from, and the byte that it is about.
+#[derive(Clone, Copy, Debug, PartialEq, Eq)]
+pub struct Refusal {
+    pub number: u8,
+    pub layer: Layer,
+    pub place: usize,
+}
 
 // Why a program is not taken, or a question not accepted.
 #[derive(Clone, Copy, Debug, PartialEq, Eq)]
@@ -23,12 +39,20 @@ pub enum BookFault {
     Questions,
 }
 
-impl Fault for BookFault {
-    ghost means = { refusal_of_book };
-
-    fn refusal(&self) -> Refusal {
+impl BookFault {
+    // The refusal that the fault stands for.
+    pub fn refusal(&self) -> Refusal
+        ensures { result ≡ refusal_of_book self.now }
+    {
         let number = match self {
-            BookFault::Unfolding(fault) => return fault.refusal(),
+            BookFault::Unfolding(fault) => {
+                let refusal = fault.refusal();
+                return Refusal {
+                    number: refusal.number,
+                    layer: Layer::Program(refusal.layer),
+                    place: refusal.place,
+                };
+            }
             BookFault::Entries => 12,
             BookFault::Nodes => 13,
             BookFault::NoEntry => 14,
@@ -70,10 +94,11 @@ pub enum CountFault {
     Cells,
 }
 
-impl Fault for CountFault {
-    ghost means = { refusal_of_count };
-
-    fn refusal(&self) -> Refusal {
+impl CountFault {
+    // The refusal that the fault stands for.
+    pub fn refusal(&self) -> Refusal
+        ensures { result ≡ refusal_of_count self.now }
+    {
         let number = match self {
             CountFault::NoQuestion => 17,
             CountFault::Weights => 18,
