@@ -1,13 +1,13 @@
 #!/usr/bin/env python3
 """Brings the names of the repository's own definitions and lemmas to snake case.
 
-    python3 tools/respell.py [--list]      at the top of the repository
+    python3 tools/respell.py [--list]      at the top of the repository, once, right after the kit's port.py
 
 A name declared in a specs/ or proofs/ file (a definition, lemma, record field, constructor or local
 lemma) that has a dash or is in lower camel case becomes snake case, wherever the .antt and .rt files
 and the edits name it. Types and modules (upper camel case), goals that answer files name, and names
 that a file takes from the library stay. Names of src/ stay. --list prints the table and what falls
-together, and changes nothing.
+together, and changes nothing. Where no name is left to respell, it ran before, and does nothing.
 """
 import collections
 import glob
@@ -98,6 +98,9 @@ def library_names(text):
 def main():
     names, goals = declared()
     table = {name: snake(name) for name in names if name not in goals}
+    if not table:
+        print("nothing to respell")
+        return
     table.update(OTHERWISE)
     if "--list" in sys.argv:
         back = collections.defaultdict(list)

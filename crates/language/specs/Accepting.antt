@@ -41,7 +41,7 @@ Refused bytes (Typing fault) = typed_of bytes ≡ Err fault
 Refused bytes Size = (p : Program) × (τ : Ty) × Encodes bytes p × WellTyped p τ × (4096 < size (unfolded p))
 Refused bytes Flips = (p : Program) × (τ : Ty) × Encodes bytes p × WellTyped p τ × (size (unfolded p) ≤ 4096) × (128 < flips (unfolded p))
 
--- an answer to bytes: accepted exactly where they encode a well_typed program within all limits, else with the refusal of the table
+-- an answer to bytes: accepted exactly where they encode a well-typed program within all limits, else with the refusal of the table
 pub record ByAllRules {A : Type 0} (bytes : List ℕ) (r : Result A UnfoldFault) : Type 0 where
   pub accepted : (is_ok r ≡ true) ↔ ((p : Program) × (τ : Ty) × Accepted bytes p τ)
   pub refused : (fault : UnfoldFault) → r ≡ Err fault → Refused bytes fault
