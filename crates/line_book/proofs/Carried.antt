@@ -4,8 +4,8 @@ use mathlib.Core.Logic.{∥∥₁_elim}
 use denote.Struct.Props.{props}
 use Rattle.diagram.specs.declared.Table.{Table}
 use Rattle.diagram.specs.declared.Node.{Node}
-use Rattle.diagram.specs.Build.{in_use, Valid, BlankFrom, MemoSound, ItemSound}
-use Rattle.diagram.specs.Decisions.{at, blank_node, Ordered, Reduced, Unique, Placed}
+use Rattle.diagram.specs.Build.{in_use, Valid, BlankFrom, MemoSound}
+use Rattle.diagram.specs.Decisions.{at, blank_node, Ordered, Reduced, Unique}
 use Rattle.line_book.specs.declared.Book.{Book}
 use Rattle.line_book.specs.declared.Entry.{Entry}
 use Rattle.line_book.specs.declared.Question.{Question}

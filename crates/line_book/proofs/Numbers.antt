@@ -1,5 +1,5 @@
 -- Elements by their numbers.
-use Rattle.std.proofs.Common.{◌≡◌, ℕ, zero, suc, ◌<◌, ◌≤◌, ◌⊎◌, List, [], ◌∷◌, ◌++◌, length, Some, None, Option, sym, refl, ap, ◌∙◌, inl, inr, arith}
+use Rattle.std.proofs.Common.{◌≡◌, ℕ, zero, suc, ◌<◌, ◌≤◌, ◌⊎◌, List, [], ◌∷◌, ◌++◌, length, Some, None, Option, sym, refl, ap, inl, inr, arith}
 use Rattle.line_book.specs.Standing.{numbered}
 
 some_same : {A : Type 0} {x y : A} → Some x ≡ Some y → x ≡ y

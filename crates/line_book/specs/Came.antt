@@ -1,5 +1,5 @@
 -- What it is for a book to have come from a history.
-use Rattle.std.specs.Prelude.{◌≡◌, ℕ, ◌<◌, ◌≤◌, min, List, [], length, get_or, take, Some, Ok, slice_index_or}
+use Rattle.std.specs.Prelude.{◌≡◌, ℕ, ◌≤◌, min, List, [], length, get_or, take, Some, Ok, slice_index_or}
 use Rattle.std.specs.Borrow.{MutBor}
 use Rattle.compiling.specs.declared.programs.Model.{Model}
 use Rattle.compiling.specs.Terms.{Stands as StandsFor, Decides, AllWithin}
@@ -8,7 +8,6 @@ use Rattle.diagram.specs.declared.Table.{Table}
 use Rattle.diagram.specs.declared.MemoItem.{MemoItem}
 use Rattle.diagram.specs.Build.{ListsKept, item}
 use Rattle.diagram.specs.Decisions.{Formula, at, Among, AllNeeded, Below, HoldsAll}
-use Rattle.language.specs.Syntax.{Ty, Program}
 use Rattle.language.specs.Unfolding.{flips, unfolded, accepted_of}
 use Rattle.semantics.specs.Formulas.{formed, evidence_of, question}
 use Rattle.semantics.specs.Running.{rows}

@@ -10,7 +10,7 @@ use Rattle.line_book.specs.declared.fault.BookFault.TheVariants.{Unfolding, Entr
 use Rattle.line_book.specs.declared.Taken.{Taken as TakenFigures}
 use Rattle.line_book.specs.declared.Answer.{Answer}
 use Rattle.line_book.specs.declared.Answer.TheVariants.{Taken, Asked, Refused, Cleared}
-use Rattle.line_book.specs.Standing.{Entered, Posed, Standing, nothing, with_entry, with_question, numbered}
+use Rattle.line_book.specs.Standing.{Entered, Standing, nothing, with_entry, with_question, numbered}
 use Rattle.line_book.specs.Rooms.{Room, NoRoom}
 
 -- a call that can change a book

@@ -1,4 +1,4 @@
-use Rattle.line_book.specs.declared.Answer.TheVariants.{Taken, Asked, Refused, Cleared}
+use Rattle.line_book.specs.declared.Answer.TheVariants.{Asked, Refused}
 use Rattle.line_book.specs.Seen.{seen}
 use Rattle.line_book.proofs.Logs.{call_lawful, call_came}
 use Rattle.line_book.proofs.Book.make.Goals as goal

@@ -1,4 +1,4 @@
-use Rattle.std.proofs.Common.{◌≡◌, ℕ, ◌<◌, min, List, [], length, drop, sym, refl, ap, ◌∙◌, subst, arith, drop-set-lt}
+use Rattle.std.proofs.Common.{ℕ, ◌<◌, min, length, sym, refl, ◌∙◌, subst, arith, drop-set-lt}
 use Rattle.line_book.specs.Histories.{History, AllLawful}
 use Rattle.line_book.specs.Came.{Came}
 use Rattle.line_book.specs.Log.{told}

@@ -1,4 +1,4 @@
-use Rattle.std.proofs.Common.{◌≡◌, ◌≤◌, length, take, drop}
+use Rattle.std.proofs.Common.{◌≡◌, length, take, drop}
 use Rattle.line_book.specs.Came.{Came, Lent}
 use Rattle.line_book.specs.Log.{told}
 use Rattle.line_book.specs.Seen.{seen}

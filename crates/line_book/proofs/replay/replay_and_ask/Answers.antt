@@ -1,4 +1,4 @@
-use Rattle.std.proofs.Common.{◌≡◌, ℕ, sym, subst}
+use Rattle.std.proofs.Common.{ℕ, sym, subst}
 use Rattle.line_book.specs.Histories.{standing}
 use Rattle.line_book.specs.Log.{told}
 use Rattle.line_book.specs.Reading.{Counted}
