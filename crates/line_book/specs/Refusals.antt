@@ -9,6 +9,7 @@ use Rattle.line_book.specs.declared.fault.BookFault.TheVariants.{Unfolding, Entr
 use Rattle.line_book.specs.declared.fault.CountFault.{CountFault}
 use Rattle.line_book.specs.declared.fault.CountFault.TheVariants.{NoQuestion, Weights, Cells}
 
+-- a refusal by its three parts
 abbrev pub refusal : (number : ℕ) → Layer → (place : ℕ) → Refusal
 refusal number layer place = record { number = number; layer = layer; place = place }
 
