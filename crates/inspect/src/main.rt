@@ -1,40 +1,36 @@
 // Inspects a program: reads its bytes from standard input, and prints its figures or the refusal.
 #![tactic(auto)]
 
-ghost use Rattle.std.specs.Prelude.{◌≤◌, length, IfOk};
+ghost use Rattle.std.specs.Prelude.{◌≡◌, take, IfOk, IfSome};
 
 use language::fault::Fault;
 use language::inspecting::inspect;
+use std::alloc::Global;
 use std::io;
 use std::io::Read;
 
-// Reads into `buffer` until it is full or the input ends, and answers how many bytes there are.
-fn fill(input: &mut impl Read, buffer: &mut [u8]) -> io::Result<usize>
-    ensures { IfOk result (λ n. n ≤ length buffer.new) }
+// One byte more than a program may have tells that an input is too long, however long it is.
+const MOST_READ: u64 = 4097;
+
+// The first bytes of an input, or all of them.
+fn read_front<R: Read + Drop>(heap: Global, input: R) -> io::Result<Vec<u8>>
+    ensures { IfOk result (λ v. IfSome (R.remaining input) (λ xs. v.items ≡ take 4097 xs)) }
 {
-    let mut end = 0;
-    while end < buffer.len() {
-        let more = input.read(&mut buffer[end..])?;
-        if more == 0 {
-            break;
-        }
-        end += more;
-    }
-    Ok(end)
+    let mut front = Vec::new(heap);
+    input.take(MOST_READ).read_to_end(&mut front)?;
+    Ok(front)
 }
 
-// One byte more than a program may have tells that an input is too long, however long it is.
 fn main(rt: HostRuntime) -> io::Result<()> {
-    let mut buffer = [0; 4097];
-    let end = fill(&mut rt.stdin(), &mut buffer)?;
-    match inspect(&buffer[0..end]) {
+    let program = read_front(rt.alloc(), rt.stdin())?;
+    match inspect(program.as_slice()) {
         Ok(found) => {
-            println!(rt; "bytes {end}")?;
+            println!(rt; "bytes {}", program.len())?;
             println!(rt; "functions {}", found.functions)?;
             println!(rt; "size {}", found.size)?;
             println!(rt; "flips {}", found.flips)?;
             println!(rt; "leaves {}", found.leaves)
         }
-        Err(fault) => println!(rt; "refused {} at {}", fault.number(), fault.place()),
+        Err(fault) => println!(rt; "{}", fault.refusal()),
     }
 }

@@ -1,15 +1,20 @@
 -- What checking asks of the types and functions that the code holds.
-use Rattle.std.proofs.Common.{◌≡◌, ℕ, zero, suc, ◌+◌, ◌<◌, ◌≤◌, Bool, true, false, leb, List, [], ◌∷◌, ◌++◌, length, get_or, Some, None, Ok, Decides, Option as StdOption, sym, refl, ap, ◌∙◌, subst, le_of_suc-le-suc, not-suc-le-zero, le-leb}
+use Rattle.std.proofs.Common.{◌≡◌, ℕ, zero, suc, ◌+◌, ◌<◌, ◌≤◌, Bool, true, false, not, leb, List, [], ◌∷◌, ◌++◌, length, get_or, nat_eq, Some, None, Ok, Decides, Option as StdOption, sym, refl, ap, ◌∙◌, subst, le_of_suc-le-suc, not-suc-le-zero, le-leb, Bor, arith}
 use mathlib.Core.Option.{some, none}
-use Rattle.std.specs.Option.{ok_or}
+use Rattle.std.specs.Option.{ok_or, option_copied, MatchOption}
 use borrow.Author.Tests.{lt-leb}
+use Rattle.std.specs.Slice.{IsItemAt}
+use Rattle.std.proofs.lemmas.List.{get_or_read}
+use Rattle.std.specs.Cmp.Lexicographic.{pointwise}
+use Rattle.std.proofs.lemmas.Slice.Eq.{slice_eq-Decides}
+use Rattle.std.proofs.lemmas.Bool.Decides.{Decides-eqb}
 use Rattle.language.specs.declared.types.TypeCode.{TypeCode}
 use Rattle.language.specs.declared.reading.FunctionOutline.{FunctionOutline}
-use Rattle.language.specs.declared.fault.TypeFault.TheVariants.{OverLimit}
-use Rattle.language.specs.Outlines.{type_bytes, Coded, AllCoded, PairCoded, Types, AllOutlined, Outlined, no_type, no_function}
+use Rattle.language.specs.declared.fault.TypeFault.TheVariants.{OutOfScope, OverLimit}
+use Rattle.language.specs.Outlines.{type_bytes, Coded, AllCoded, PairCoded, Types, AllOutlined, Callable, Outlined, no_type, no_function}
 use Rattle.language.specs.Reading.{type_from}
 use Rattle.language.specs.Syntax.{Ty, product, leaves, encode_ty, Function, place_after}
-use Rattle.language.specs.Typing.{at, same_type, need}
+use Rattle.language.specs.Typing.{at, or_fault, same_type, need}
 use Rattle.language.proofs.Results.{ok_same}
 use Rattle.language.proofs.Encoding.{type_complete}
 use Rattle.language.proofs.Derivations.{same_refl, same_eq}
@@ -21,13 +26,21 @@ type_injective σ τ e =
     (ok_same (type_complete 0 σ []) (ap (λ (s : List ℕ). type_from 0 (s ++ [])) e ∙ type_complete 0 τ []))
 
 -- a test that decides whether the bytes are the same decides whether the types are
-pub same_coded : (t u : TypeCode) (σ τ : Ty) (b : Bool) → Coded t σ → Coded u τ → Decides b (type_bytes t ≡ type_bytes u) → same_type σ τ ≡ b
-same_coded t u σ τ true p q d = subst (λ (x : Ty). same_type σ x ≡ true) (type_injective σ τ (sym p ∙ d.0 refl ∙ q)) (same_refl σ)
-same_coded t u σ τ false p q d = go (same_type σ τ) refl
+decided : (t u : TypeCode) (σ τ : Ty) (b : Bool) → Coded t σ → Coded u τ → Decides b (type_bytes t ≡ type_bytes u) → same_type σ τ ≡ b
+decided t u σ τ true p q d = subst (λ (x : Ty). same_type σ x ≡ true) (type_injective σ τ (sym p ∙ d.0 refl ∙ q)) (same_refl σ)
+decided t u σ τ false p q d = go (same_type σ τ) refl
   where
     go : (b : Bool) → same_type σ τ ≡ b → b ≡ false
     go true e = sym (d.1 (p ∙ ap encode_ty (same_eq σ τ e) ∙ sym q))
     go false e = refl
+
+-- types differ where their bytes do
+pub same_coded : (t u : TypeCode) (σ τ : Ty) (b : Bool) → Coded t σ → Coded u τ → b ≡ not (pointwise nat_eq (type_bytes t) (type_bytes u)) → same_type σ τ ≡ not b
+same_coded t u σ τ b p q e = decided t u σ τ (not b) p q (slice_eq-Decides Decides-eqb _ _ (not b) (ap not e ∙ not_not (pointwise nat_eq (type_bytes t) (type_bytes u))))
+  where
+    not_not : (b : Bool) → not (not b) ≡ b
+    not_not true = refl
+    not_not false = refl
 
 pub scope_length : (ts : List TypeCode) (Γ : List Ty) → AllCoded ts Γ → length ts ≡ length Γ
 scope_length [] [] h = refl
@@ -46,6 +59,14 @@ at_past [] k h = refl
 at_past (x ∷ xs) zero h = absurd (not-suc-le-zero h)
 at_past (x ∷ xs) (suc k) h = at_past xs k (le_of_suc-le-suc h)
 
+-- what is found at a number of the scope
+pub scope_found : (ts : List TypeCode) (Γ : List Ty) (k place : ℕ) (o : StdOption (Bor TypeCode)) → AllCoded ts Γ → IsItemAt ts k o → Types (ok_or (option_copied o) (OutOfScope place)) (or_fault (OutOfScope place) (at Γ k))
+scope_found ts Γ k place None h i = ap (or_fault (OutOfScope place)) (at_past Γ k (omega (arith, i.3, scope_length ts Γ h)))
+scope_found ts Γ k place (Some x) h i =
+    let n : k < length ts = i.3.0 in
+    let s = scope_at ts Γ k h n in
+    (s.0, subst (λ (t : TypeCode). Coded t s.0) (sym (get_or_read ts k x.now n i.1 no_type)) s.1, ap (or_fault (OutOfScope place)) s.2)
+
 pub scope_more : (ts : List TypeCode) (Γ : List Ty) (t : TypeCode) (τ : Ty) → AllCoded ts Γ → Coded t τ → AllCoded (ts ++ (t ∷ [])) (Γ ++ (τ ∷ []))
 scope_more [] [] t τ h c = (c, tt)
 scope_more [] (σ ∷ Γ) t τ h c = absurd h
@@ -63,6 +84,14 @@ pub function_at : (os : List FunctionOutline) (Φ : List Function) (k : ℕ) →
 function_at os Φ k all h =
     let c = cut_at Φ k h in
     (c.0, c.1, c.5, c.4, subst (λ (n : ℕ). Outlined (place_after c.0) (get_or os n no_function) c.1) c.4 (all c.0 c.1 c.2 c.3))
+
+-- what is found at a number of the functions that may be called
+pub function_found : (os : List FunctionOutline) (Φ : List Function) (k : ℕ) (o : StdOption (Bor FunctionOutline)) → Callable os Φ → IsItemAt os k o → MatchOption o (at Φ k ≡ none) (λ x. (before : List Function) × (f : Function) × (at Φ k ≡ some f) × Outlined (place_after before) x.now f)
+function_found os Φ k None (all, n) i = at_past Φ k (omega (arith, i.3))
+function_found os Φ k (Some x) (all, n) i =
+    let m : k < length os = i.3.0 in
+    let f = function_at os Φ k all (omega arith) in
+    (f.0, f.1, f.2, subst (λ (y : FunctionOutline). Outlined (place_after f.0) y f.1) (sym (get_or_read os k x.now m i.1 no_function)) f.4)
 
 -- a pair within the limit
 pub pair_typed : (o : StdOption TypeCode) (σ τ : Ty) (p : ℕ) → PairCoded o σ τ → Types (ok_or o (OverLimit p)) (need (leb (leaves σ + leaves τ) 16) (OverLimit p) (Ok (product σ τ)))

@@ -13,11 +13,11 @@ pub enum Operand {
     Name(u8),
 }
 
-impl Operand {
-    // The operand that a byte stands for.
-    pub fn of(byte: u8) -> Operand
-        ensures { result ≡ operand_of byte }
-    {
+// The operand that a byte stands for.
+impl From<u8> for Operand {
+    ghost from_gives = { λ byte r. r ≡ operand_of byte };
+
+    fn from(byte: u8) -> Operand {
         match byte {
             0xfe => Operand::False,
             0xff => Operand::True,
@@ -53,20 +53,20 @@ pub fn next_command(bytes: &[u8], whole: usize) -> Result<(Command, &[u8]), Read
     ensures shorter { IfOk result (λ x. length x.1.now < length bytes.now) }
 {
     match bytes {
-        [1, a, rest @ ..] => Ok((Command::Simple(Simple::Atom(Operand::of(*a))), rest)),
+        [1, a, rest @ ..] => Ok((Command::Simple(Simple::Atom(Operand::from(*a))), rest)),
         [2, a, b, rest @ ..] => {
-            let (first, second) = (Operand::of(*a), Operand::of(*b));
+            let (first, second) = (Operand::from(*a), Operand::from(*b));
             Ok((Command::Simple(Simple::Pair(first, second)), rest))
         }
-        [3, a, rest @ ..] => Ok((Command::Simple(Simple::First(Operand::of(*a))), rest)),
-        [4, a, rest @ ..] => Ok((Command::Simple(Simple::Second(Operand::of(*a))), rest)),
+        [3, a, rest @ ..] => Ok((Command::Simple(Simple::First(Operand::from(*a))), rest)),
+        [4, a, rest @ ..] => Ok((Command::Simple(Simple::Second(Operand::from(*a))), rest)),
         [5, row, rest @ ..] => Ok((Command::Simple(Simple::Flip(*row)), rest)),
-        [6, guard, rest @ ..] => Ok((Command::If(Operand::of(*guard)), rest)),
+        [6, guard, rest @ ..] => Ok((Command::If(Operand::from(*guard)), rest)),
         [7, rest @ ..] => Ok((Command::Let, rest)),
-        [8, a, rest @ ..] => Ok((Command::Simple(Simple::Observe(Operand::of(*a))), rest)),
+        [8, a, rest @ ..] => Ok((Command::Simple(Simple::Observe(Operand::from(*a))), rest)),
         [9, function, a, rest @ ..] => {
             Ok((
-                Command::Simple(Simple::Call(*function, Operand::of(*a))),
+                Command::Simple(Simple::Call(*function, Operand::from(*a))),
                 rest,
             ))
         }

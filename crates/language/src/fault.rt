@@ -1,9 +1,11 @@
 // What is wrong with a program: the faults of each layer, and the refusal that each stands for.
-ghost use Rattle.language.specs.Refusals.{refusal_of_read, refusal_of_typing, refusal_of_unfolding};
+ghost use Rattle.language.specs.Refusals.{refusal_of_read, refusal_of_typing, refusal_of_unfolding, refusal_text};
 ghost use Rattle.language.specs.declared.fault.Refusal.{Refusal};
 ghost use Rattle.language.specs.declared.fault.TypeFault.TheVariants.{Reading};
 ghost use Rattle.language.specs.declared.fault.UnfoldFault.TheVariants.{Typing};
-ghost use Rattle.std.specs.Prelude.{◌≡◌};
+ghost use Rattle.std.specs.Prelude.{◌≡◌, Some};
+
+use std::fmt;
 
 // The layer that refuses a program.
 #[derive(Clone, Copy, Debug, PartialEq, Eq)]
@@ -15,18 +17,29 @@ pub enum Layer {
 
 // A refusal as it is reported: its number, the layer that it comes from, and the byte that it is about.
 #[derive(Clone, Copy, Debug, PartialEq, Eq)]
-pub struct Refusal {
+pub struct Refusal<L> {
     pub number: u8,
-    pub layer: Layer,
+    pub layer: L,
     pub place: usize,
+}
+
+impl<L> fmt::Display for Refusal<L> {
+    ghost output = { λ r. Some (refusal_text r) };
+
+    fn fmt<W: fmt::Write>(&self, f: &mut fmt::Formatter<W>) -> fmt::Result {
+        write!(f, "refused {} at {}", self.number, self.place)
+    }
 }
 
 // What stops the work on a program: each case stands for one refusal.
 pub trait Fault {
-    // By the table of refusals.
-    ghost means: { Self → Refusal };
+    // The layers that refuse.
+    type Layer: Copy;
 
-    fn refusal(&self) -> Refusal
+    // By the table of refusals.
+    ghost means: { Self → Refusal Self.Layer };
+
+    fn refusal(&self) -> Refusal<Self::Layer>
         ensures { result ≡ means self.now };
 
     fn number(&self) -> u8
@@ -35,7 +48,7 @@ pub trait Fault {
         self.refusal().number
     }
 
-    fn layer(&self) -> Layer
+    fn layer(&self) -> Self::Layer
         ensures { result ≡ (means self.now).layer }
     {
         self.refusal().layer
@@ -64,9 +77,11 @@ pub enum ReadFault {
 }
 
 impl Fault for ReadFault {
+    type Layer = Layer;
+
     ghost means = { refusal_of_read };
 
-    fn refusal(&self) -> Refusal {
+    fn refusal(&self) -> Refusal<Layer> {
         let (number, place) = match self {
             ReadFault::TooLong => (1, 4096),
             ReadFault::Ends(place) => (2, *place),
@@ -97,9 +112,11 @@ pub enum TypeFault {
 }
 
 impl Fault for TypeFault {
+    type Layer = Layer;
+
     ghost means = { refusal_of_typing };
 
-    fn refusal(&self) -> Refusal {
+    fn refusal(&self) -> Refusal<Layer> {
         let (number, place) = match self {
             TypeFault::Reading(fault) => return fault.refusal(),
             TypeFault::OutOfScope(place) => (6, *place),
@@ -134,9 +151,11 @@ pub enum UnfoldFault {
 }
 
 impl Fault for UnfoldFault {
+    type Layer = Layer;
+
     ghost means = { refusal_of_unfolding };
 
-    fn refusal(&self) -> Refusal {
+    fn refusal(&self) -> Refusal<Layer> {
         let number = match self {
             UnfoldFault::Typing(fault) => return fault.refusal(),
             UnfoldFault::Size => 10,

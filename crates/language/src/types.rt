@@ -1,5 +1,9 @@
 // Types as the code holds them.
-ghost use Rattle.std.specs.Prelude.{◌≡◌, ◌+◌, ◌-◌, ◌<◌, ◌≤◌, length, IfOk, Decides};
+ghost use Rattle.std.specs.Prelude.{◌≡◌, ◌+◌, ◌-◌, ◌<◌, ◌≤◌, ◌==◌, length, IfOk};
+ghost use Rattle.std.proofs.Common.{rules};
+ghost use Rattle.std.specs.Cmp.Rules.{comparing};
+ghost use Rattle.std.specs.Ordering.{on};
+ghost use Rattle.std.specs.Cmp.Lexicographic.{pointwise};
 ghost use Rattle.language.specs.Outcomes.{Follows};
 ghost use Rattle.language.specs.Outlines.{Coded, Counted, PairCoded, PartsCoded, type_bytes};
 ghost use Rattle.language.specs.Reading.{type_from};
@@ -16,6 +20,17 @@ pub const MOST_LEAVES: usize = 16;
 pub struct TypeCode {
     pub len: usize,
     pub bytes: [u8; 31],
+}
+
+// Equal by the bytes in use.
+impl PartialEq for TypeCode {
+    ghost eq = { on type_bytes (pointwise ◌==◌) };
+
+    ghost laws = { Prim.search (comparing, rules) };
+
+    fn eq(&self, other: &TypeCode) -> bool {
+        self.as_slice() == other.as_slice()
+    }
 }
 
 impl TypeCode {
@@ -46,13 +61,6 @@ impl TypeCode {
     {
         let end = self.len.min(31);
         &self.bytes[0..end]
-    }
-
-    // Whether it is the same type as `other`.
-    pub(crate) fn is(&self, other: &TypeCode) -> bool
-        ensures { Decides result (type_bytes self.now ≡ type_bytes other.now) }
-    {
-        self.as_slice() == other.as_slice()
     }
 
     // The number of its leaves: a type has one byte for each leaf, and one for each pair.

@@ -23,11 +23,8 @@ fn operand_type(scope: &[TypeCode], operand: Operand, place: usize) -> Result<Ty
     match operand {
         Operand::False | Operand::True => Ok(TypeCode::BOOL),
         Operand::Name(name) => {
-            let name = name as usize;
-            if name >= scope.len() {
-                return Err(TypeFault::OutOfScope(place));
-            }
-            Ok(scope[name])
+            let known = scope.get(name as usize).copied();
+            known.ok_or(TypeFault::OutOfScope(place))
         }
     }
 }
@@ -37,7 +34,7 @@ fn check_bool(scope: &[TypeCode], operand: Operand, place: usize) -> Result<(), 
     ensures { (Γ : List Ty) → AllCoded scope.now Γ → result ≡ bool_operand Γ place operand }
 {
     let found = operand_type(scope, operand, place)?;
-    if !found.is(&TypeCode::BOOL) {
+    if found != TypeCode::BOOL {
         return Err(TypeFault::Mistyped(place));
     }
     Ok(())
@@ -64,12 +61,10 @@ fn check_call(
 ) -> Result<TypeCode, TypeFault>
     ensures { (Φ : List Function) (τ : Ty) → Callable functions.now Φ → Coded operand τ → Types result (call_type Φ place number τ) }
 {
-    let number = number as usize;
-    if number >= functions.len() {
-        return Err(TypeFault::NoFunction(place));
-    }
-    let function = functions[number];
-    if !operand.is(&function.parameter) {
+    let function = functions
+        .get(number as usize)
+        .ok_or(TypeFault::NoFunction(place))?;
+    if operand != function.parameter {
         return Err(TypeFault::Mistyped(place));
     }
     Ok(function.result)
@@ -133,7 +128,7 @@ fn check_expression<'a>(
             check_bool(scope, guard, place)?;
             let (first, rest) = check_expression(rest, whole, functions, scope)?;
             let (second, rest) = check_expression(rest, whole, functions, scope)?;
-            if !first.is(&second) {
+            if first != second {
                 return Err(TypeFault::Mistyped(place));
             }
             Ok((second, rest))
@@ -153,10 +148,7 @@ fn check_expression<'a>(
 pub fn part_from(program: &[u8], place: usize) -> &[u8]
     ensures { result.now ≡ drop place program.now }
 {
-    if place > program.len() {
-        return &[];
-    }
-    &program[place..]
+    program.get(place..).unwrap_or(&[])
 }
 
 // Checks the body of the function with a number: it has the type that the function promises.
@@ -168,7 +160,7 @@ fn check_body(program: &[u8], outline: &Outline, number: usize) -> Result<(), Ty
     let body = part_from(program, function.body);
     let callable = &outline.functions[0..number];
     let (found, _) = check_expression(body, program.len(), callable, &[function.parameter])?;
-    if !found.is(&function.result) {
+    if found != function.result {
         return Err(TypeFault::Mistyped(function.body));
     }
     Ok(())

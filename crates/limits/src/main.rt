@@ -76,7 +76,7 @@ fn report(rt: &HostRuntime, name: &str, program: &Vec<u8>) -> anyhow::Result<()>
                 found.functions, found.leaves
             )?;
         }
-        Err(fault) => println!(rt; "{name}: refused {} at {}", fault.number(), fault.place())?,
+        Err(fault) => println!(rt; "{name}: {}", fault.refusal())?,
     }
     Ok(())
 }

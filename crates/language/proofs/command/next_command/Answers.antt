@@ -11,7 +11,7 @@ returns-in-1 c =
     record {
       gives = (
         commands.Simple (Atom (operand_of (get_or c.args.bytes.now 1 0))),
-        ap (λ (a : Operand). commands.Simple (Atom a)) c.of-in-1.ensures,
+        ap (λ (a : Operand). commands.Simple (Atom a)) c.from-in-1.ensures,
         one_operand c.args.whole 1 c.args.bytes.now (λ a. commands.Simple (Atom (operand_of a))) (λ p a rest. refl) (search rules) (search rules),
       );
       shorter = search rules;
@@ -22,7 +22,7 @@ returns-in-3 c =
     record {
       gives = (
         commands.Simple (First (operand_of (get_or c.args.bytes.now 1 0))),
-        ap (λ (a : Operand). commands.Simple (First a)) c.of-in-3.ensures,
+        ap (λ (a : Operand). commands.Simple (First a)) c.from-in-3.ensures,
         one_operand c.args.whole 3 c.args.bytes.now (λ a. commands.Simple (First (operand_of a))) (λ p a rest. refl) (search rules) (search rules),
       );
       shorter = search rules;
@@ -33,7 +33,7 @@ returns-in-4 c =
     record {
       gives = (
         commands.Simple (Second (operand_of (get_or c.args.bytes.now 1 0))),
-        ap (λ (a : Operand). commands.Simple (Second a)) c.of-in-4.ensures,
+        ap (λ (a : Operand). commands.Simple (Second a)) c.from-in-4.ensures,
         one_operand c.args.whole 4 c.args.bytes.now (λ a. commands.Simple (Second (operand_of a))) (λ p a rest. refl) (search rules) (search rules),
       );
       shorter = search rules;
@@ -44,7 +44,7 @@ returns-in-6 c =
     record {
       gives = (
         commands.If (operand_of (get_or c.args.bytes.now 1 0)),
-        ap (λ (a : Operand). commands.If a) c.of-in-6.ensures,
+        ap (λ (a : Operand). commands.If a) c.from-in-6.ensures,
         one_operand c.args.whole 6 c.args.bytes.now (λ a. commands.If (operand_of a)) (λ p a rest. refl) (search rules) (search rules),
       );
       shorter = search rules;
@@ -55,7 +55,7 @@ returns-in-8 c =
     record {
       gives = (
         commands.Simple (Observe (operand_of (get_or c.args.bytes.now 1 0))),
-        ap (λ (a : Operand). commands.Simple (Observe a)) c.of-in-8.ensures,
+        ap (λ (a : Operand). commands.Simple (Observe a)) c.from-in-8.ensures,
         one_operand c.args.whole 8 c.args.bytes.now (λ a. commands.Simple (Observe (operand_of a))) (λ p a rest. refl) (search rules) (search rules),
       );
       shorter = search rules;

@@ -1,4 +1,4 @@
-use Rattle.std.proofs.Common.{◌≡◌, ℕ, ◌+◌, ◌-◌, ◌≤◌, true, false, List, [], ◌∷◌, ◌++◌, length, take, Ok, sym, ap, ◌∙◌, subst, arith}
+use Rattle.std.proofs.Common.{◌≡◌, ℕ, ◌+◌, ◌-◌, ◌≤◌, true, false, List, [], ◌∷◌, ◌++◌, length, take, Ok, sym, ap, ◌∙◌, subst, arith, not}
 use native.Mathlib.Nat.{sub-zero}
 use Rattle.std.proofs.lemmas.Result.{IfOk-from_err, IfOk-weaker}
 use Rattle.language.specs.declared.types.TypeCode.{TypeCode}
@@ -90,8 +90,8 @@ returns-in_err-second-in-If t c = record {
   shorter = IfOk-from_err c.from_residual-in_err-second-in-If.result _ c.from_residual-in_err-second-in-If.ensures.0;
 }
 
-pub returns-then-not-is : goal.returns-then-not-is
-returns-then-not-is t c = record {
+pub returns-then-ne : goal.returns-then-ne
+returns-then-ne t c = record {
   types = λ Φ Γ e end call coded b h.
       let i = arms c.args.whole c.args.bytes.now c.in_ok-command.rest.now end e c.in_ok-command.command c.in-If.guard c.requires (as_read c.in_ok-command.ensures.gives) c.in-If.is b h in
       let p = c.args.whole - length c.args.bytes.now in
@@ -100,12 +100,12 @@ returns-then-not-is t c = record {
       ap (check Φ Γ p) i.expr_is ∙ arms_agree Φ Γ p c.in-If.guard i.first i.second false (sym (c.in_ok-check_bool-in-If.ensures Γ coded))
       (moved Φ Γ i.first f.2 i.first_place)
       (moved Φ Γ i.second s.2 (i.second_place c.in_ok-first-in-If.rest.now f.3))
-      (same_coded c.in_ok-first-in-If.first c.in_ok-second-in-If.second f.0 s.0 c.is.result f.1 s.1 c.is.ensures ∙ c.if-not-is.true);
+      (same_coded c.in_ok-first-in-If.first c.in_ok-second-in-If.second f.0 s.0 c.ne.result f.1 s.1 c.ne.ensures ∙ ap not c.if-ne.true);
   shorter = tt;
 }
 
-pub returns-else-not-is : goal.returns-else-not-is
-returns-else-not-is t c = record {
+pub returns-else-ne : goal.returns-else-ne
+returns-else-ne t c = record {
   types = λ Φ Γ e end call coded b h.
       let i = arms c.args.whole c.args.bytes.now c.in_ok-command.rest.now end e c.in_ok-command.command c.in-If.guard c.requires (as_read c.in_ok-command.ensures.gives) c.in-If.is b h in
       let p = c.args.whole - length c.args.bytes.now in
@@ -116,7 +116,7 @@ returns-else-not-is t c = record {
         ap (check Φ Γ p) i.expr_is ∙ arms_agree Φ Γ p c.in-If.guard i.first i.second true (sym (c.in_ok-check_bool-in-If.ensures Γ coded))
             (moved Φ Γ i.first f.2 i.first_place)
             (moved Φ Γ i.second s.2 (i.second_place c.in_ok-first-in-If.rest.now f.3))
-            (same_coded c.in_ok-first-in-If.first c.in_ok-second-in-If.second f.0 s.0 c.is.result f.1 s.1 c.is.ensures ∙ c.if-not-is.false),
+            (same_coded c.in_ok-first-in-If.first c.in_ok-second-in-If.second f.0 s.0 c.ne.result f.1 s.1 c.ne.ensures ∙ ap not c.if-ne.false),
         s.3,
       );
   shorter = omega (arith, c.in_ok-second-in-If.ensures.shorter, c.in_ok-first-in-If.ensures.shorter, c.in_ok-command.ensures.shorter);

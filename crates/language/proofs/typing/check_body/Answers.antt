@@ -1,4 +1,4 @@
-use Rattle.std.proofs.Common.{ℕ, Bool, [], ◌∷◌, length, get_or, Ok, Err, sym, ap, ◌∙◌, arith, length-drop, rules}
+use Rattle.std.proofs.Common.{ℕ, Bool, [], ◌∷◌, length, get_or, Ok, Err, sym, ap, ◌∙◌, arith, length-drop, rules, not}
 use Rattle.std.proofs.lemmas.Result.{err_from_is_err_and}
 use Rattle.language.specs.declared.fault.TypeFault.TheVariants.{Mistyped}
 use Rattle.language.specs.Outlines.{no_function}
@@ -19,14 +19,14 @@ returns-in_err-found c p before f following enc out cut number =
     let found = c.in_err-found.ensures.types before (f.parameter ∷ []) f.body r.rest r.callable (r.parameter_code, tt) r.part_is r.proper in
     e.1 ∙ ap Err e.2 ∙ sym (then_err _ (ap (λ (k : ℕ). check before (f.parameter ∷ []) k f.body) (sym r.place_is) ∙ found))
 
-pub returns-then-not-is : goal.returns-then-not-is
-returns-then-not-is c p before f following enc out cut number =
+pub returns-then-ne : goal.returns-then-ne
+returns-then-ne c p before f following enc out cut number =
     let r = body_ready c.args.program.now c.args.outline.now p before f following c.args.number c.part_from-body.result.now enc out cut number (search rules) c.part_from-body.ensures in
     let found = c.in_ok-found.ensures.types before (f.parameter ∷ []) f.body r.rest r.callable (r.parameter_code, tt) r.part_is r.proper in
     let place = body_place (place_after before) f in
     ap (λ (k : ℕ). Err (Mistyped k)) r.body_is_at
     ∙ sym (then_at (λ τ. needs_that (same_type τ f.result) (Mistyped place) (Ok tt)) (ap (λ (k : ℕ). check before (f.parameter ∷ []) k f.body) (sym r.place_is) ∙ found.2)
-    ∙ ap (λ (b : Bool). needs_that b (Mistyped place) (Ok tt)) (same_coded c.in_ok-found.found (get_or c.args.outline.now.functions c.args.number no_function).result found.0 f.result c.is.result found.1 r.result_code c.is.ensures ∙ c.if-not-is.true))
+    ∙ ap (λ (b : Bool). needs_that b (Mistyped place) (Ok tt)) (same_coded c.in_ok-found.found (get_or c.args.outline.now.functions c.args.number no_function).result found.0 f.result c.ne.result found.1 r.result_code c.ne.ensures ∙ ap not c.if-ne.true))
 
 pub returns : goal.returns
 returns c p before f following enc out cut number =
@@ -34,4 +34,4 @@ returns c p before f following enc out cut number =
     let found = c.in_ok-found.ensures.types before (f.parameter ∷ []) f.body r.rest r.callable (r.parameter_code, tt) r.part_is r.proper in
     let place = body_place (place_after before) f in
     sym (then_at (λ τ. needs_that (same_type τ f.result) (Mistyped place) (Ok tt)) (ap (λ (k : ℕ). check before (f.parameter ∷ []) k f.body) (sym r.place_is) ∙ found.2)
-    ∙ ap (λ (b : Bool). needs_that b (Mistyped place) (Ok tt)) (same_coded c.in_ok-found.found (get_or c.args.outline.now.functions c.args.number no_function).result found.0 f.result c.is.result found.1 r.result_code c.is.ensures ∙ c.if-not-is.false))
+    ∙ ap (λ (b : Bool). needs_that b (Mistyped place) (Ok tt)) (same_coded c.in_ok-found.found (get_or c.args.outline.now.functions c.args.number no_function).result found.0 f.result c.ne.result found.1 r.result_code c.ne.ensures ∙ ap not c.if-ne.false))

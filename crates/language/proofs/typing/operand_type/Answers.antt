@@ -1,15 +1,18 @@
-use Rattle.std.proofs.Common.{ap, ◌∙◌, arith, rules}
+use Rattle.std.proofs.Common.{Result, sym, ap, ◌∙◌, subst}
+use Rattle.std.specs.Option.{ok_or}
+use Rattle.language.specs.declared.types.TypeCode.{TypeCode}
+use Rattle.language.specs.declared.command.Operand.TheVariants.{Name}
+use Rattle.language.specs.declared.fault.TypeFault.{TypeFault}
 use Rattle.language.specs.declared.fault.TypeFault.TheVariants.{OutOfScope}
-use Rattle.language.specs.Typing.{or_fault, type_of_operand}
-use Rattle.language.proofs.CheckSteps.{scope_at, scope_length, at_past}
+use Rattle.language.specs.Outlines.{Types}
+use Rattle.language.specs.Typing.{type_of_operand}
+use Rattle.language.proofs.CheckSteps.{scope_found}
 use Rattle.language.proofs.typing.operand_type.Goals as goal
 
-pub returns-then-name-scope : goal.returns-then-name-scope
-returns-then-name-scope c Γ h =
-    ap (type_of_operand Γ c.args.place) c.in-Name.is
-    ∙ ap (or_fault (OutOfScope c.args.place)) (at_past Γ c.in-Name.name (omega (arith, scope_length c.args.scope.now Γ h)))
-
-pub returns-else-name-scope : goal.returns-else-name-scope
-returns-else-name-scope c Γ h =
-    let s = scope_at c.args.scope.now Γ c.in-Name.name h (search rules) in
-    (s.0, s.1, ap (type_of_operand Γ c.args.place) c.in-Name.is ∙ ap (or_fault (OutOfScope c.args.place)) s.2)
+pub returns-in-Name : goal.returns-in-Name
+returns-in-Name c Γ h =
+    let k = c.in-Name.name in
+    rw c.in-Name.is
+    (subst (λ (r : Result TypeCode TypeFault). Types r (type_of_operand Γ c.args.place (Name k)))
+    (sym (c.ok_or.ensures.value ∙ ap (λ o. ok_or o (OutOfScope c.args.place)) c.copied-known.ensures))
+    (scope_found c.args.scope.now Γ k c.args.place c.get.result h c.get.ensures.lookup))
