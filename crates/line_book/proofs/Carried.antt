@@ -1,7 +1,9 @@
 -- What the type of a book carries: from a valid table and a history, and back.
-use Rattle.std.proofs.Common.{◌≡◌, ℕ, ◌≤◌, List, length, ap}
+use Rattle.std.proofs.Common.{◌≡◌, ◌≤◌, length, ap}
 use mathlib.Core.Logic.{∥∥₁_elim}
 use denote.Struct.Props.{props}
+use Rattle.bounded.specs.declared.Bounded.{Bounded}
+use Rattle.bounded.specs.Listed.{listed}
 use Rattle.diagram.specs.declared.Table.{Table}
 use Rattle.diagram.specs.declared.Node.{Node}
 use Rattle.diagram.specs.Build.{in_use, Valid, BlankFrom, MemoSound}
@@ -13,31 +15,22 @@ use Rattle.line_book.specs.Came.{view, Came}
 use Rattle.line_book.specs.Histories.{History}
 
 -- the ghost fields, in their order
-abbrev pub Carries : Table → List Entry → ℕ → List Question → ℕ → Type 0
-Carries t es k qs m = record {
+abbrev pub Carries : Table → Bounded Entry 8 → Bounded Question 64 → Type 0
+Carries t es qs = record {
   fits : t.used ≤ length t.nodes.now;
   small : t.used ≤ 16384;
-  few : k ≤ 8;
-  limited : m ≤ 64;
-  slots : length es ≡ 8;
-  places : length qs ≡ 64;
   reduced : Reduced (in_use t);
   unique : ∥ Unique (in_use t) ∥₁;
   ordered : ∥ Ordered (in_use t) ∥₁;
   blank : ∥ BlankFrom t.nodes.now t.used ∥₁;
   memo : ∥ MemoSound (in_use t) t.memo.now ∥₁;
-  came : ∥ ((h : History) × Came h (view t es k qs m)) ∥₁;
+  came : ∥ ((h : History) × Came h (view t (listed es) (listed qs))) ∥₁;
 }
 
-pub carries : (t : Table) (es : List Entry) (k : ℕ) (qs : List Question) (m : ℕ) → Valid t → k ≤ 8 → m ≤ 64 → length es ≡ 8 → length qs ≡ 64 →
-    ∥ ((h : History) × Came h (view t es k qs m)) ∥₁ → Carries t es k qs m
-carries t es k qs m v few limited slots places came = record {
+pub carries : (t : Table) (es : Bounded Entry 8) (qs : Bounded Question 64) → Valid t → ∥ ((h : History) × Came h (view t (listed es) (listed qs))) ∥₁ → Carries t es qs
+carries t es qs v came = record {
   fits = v.fits;
   small = v.small;
-  few = few;
-  limited = limited;
-  slots = slots;
-  places = places;
   reduced = v.sound.reduced;
   unique = ∣ v.sound.unique ∣₁;
   ordered = ∣ v.sound.ordered ∣₁;

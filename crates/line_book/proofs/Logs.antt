@@ -1,16 +1,14 @@
 -- A list of calls with one more.
-use Rattle.std.proofs.Common.{◌≡◌, ℕ, zero, suc, ◌+◌, ◌<◌, ◌≤◌, min, List, [], ◌∷◌, ◌++◌, length, get_or, take, set, sym, refl, ap, ◌∙◌, subst, arith}
+use Rattle.std.proofs.Common.{◌≡◌, ℕ, zero, suc, ◌+◌, ◌<◌, ◌≤◌, min, List, [], ◌∷◌, ◌++◌, length, get_or, take, set, sym, refl, ap, ◌∙◌, arith}
 use Rattle.std.proofs.lemmas.List.{take_more, take_more_set, length-take-le}
 use Rattle.diagram.specs.declared.Table.{Table}
 use Rattle.diagram.proofs.Building.{lists_on}
-use Rattle.line_book.specs.declared.Answer.{Answer}
 use Rattle.line_book.specs.declared.Call.{Call}
-use Rattle.line_book.specs.Standing.{nothing}
-use Rattle.line_book.specs.Histories.{step, History, standing, Lawful}
-use Rattle.line_book.specs.Came.{View, room, Came, Lent}
+use Rattle.line_book.specs.Histories.{Reply, step, History}
+use Rattle.line_book.specs.Came.{Lent}
 use Rattle.line_book.specs.Log.{act, told}
 
-told_push : (calls : List Call) (answers : List Answer) (c : Call) (a : Answer) → length calls ≡ length answers →
+told_push : (calls : List Call) (answers : List Reply) (c : Call) (a : Reply) → length calls ≡ length answers →
     told (calls ++ (c ∷ [])) (answers ++ (a ∷ [])) ≡ told calls answers ++ (step (act c) a ∷ [])
 unfolding told
 told_push [] [] c a e = refl
@@ -18,7 +16,7 @@ told_push [] (b ∷ answers) c a e = absurd (omega arith)
 told_push (d ∷ calls) [] c a e = absurd (omega arith)
 told_push (d ∷ calls) (b ∷ answers) c a e = ap (λ (h : History). step (act d) b ∷ h) (told_push calls answers c a (omega arith))
 
-pub told_more : (calls : List Call) (answers : List Answer) (i : ℕ) (a : Answer) (d : Call) → i < length calls → i < length answers →
+pub told_more : (calls : List Call) (answers : List Reply) (i : ℕ) (a : Reply) (d : Call) → i < length calls → i < length answers →
     told (take (i + 1) calls) (take (i + 1) (set answers i a)) ≡ told (take i calls) (take i answers) ++ (step (act (get_or calls i d)) a ∷ [])
 told_more calls answers i a d hc ha =
     ap (λ (cs : List Call). told cs (take (i + 1) (set answers i a))) (take_more calls i d hc) ∙
@@ -31,7 +29,7 @@ unfolding told
 told_none = refl
 
 -- as many calls as both lists have
-pub told_all : (calls : List Call) (answers : List Answer) (i : ℕ) → min (length calls) (length answers) ≤ i → told (take i calls) (take i answers) ≡ told calls answers
+pub told_all : (calls : List Call) (answers : List Reply) (i : ℕ) → min (length calls) (length answers) ≤ i → told (take i calls) (take i answers) ≡ told calls answers
 unfolding told
 told_all [] answers zero h = refl
 told_all [] answers (suc i) h = refl
@@ -46,11 +44,3 @@ lent_on s t u a b = record {
   size = b.size ∙ a.size;
   beyond = λ k h. b.beyond k h ∙ a.beyond k h;
 }
-
--- a call is the one that it was found to be
-module _ (x y : Call) (is : x ≡ y) (r : Answer) (v w : View) where
-  pub call_lawful : ((h : History) → Came h v → Lawful (room v) (standing nothing h) (step (act y) r)) → (h : History) → Came h v → Lawful (room v) (standing nothing h) (step (act x) r)
-  call_lawful l h c = let P : Call → Type 0 = λ z. Lawful (room v) (standing nothing h) (step (act z) r) in subst P (sym is) (l h c)
-
-  pub call_came : ((h : History) → Came h v → Came (h ++ (step (act y) r ∷ [])) w) → (h : History) → Came h v → Came (h ++ (step (act x) r ∷ [])) w
-  call_came k h c = let P : Call → Type 0 = λ z. Came (h ++ (step (act z) r ∷ [])) w in subst P (sym is) (k h c)

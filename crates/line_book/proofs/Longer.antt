@@ -1,13 +1,21 @@
 -- Histories of one call more.
-use Rattle.std.proofs.Common.{◌≡◌, ℕ, min, List, [], ◌∷◌, ◌++◌, length, sym, refl, subst}
+use Rattle.std.proofs.Common.{◌≡◌, ℕ, min, List, [], ◌∷◌, ◌++◌, length, sym, refl, ap, subst, arith}
+use mathlib.Core.Logic.{∥∥₁_map}
+use Rattle.bounded.specs.declared.Bounded.{Bounded}
+use Rattle.bounded.specs.Listed.{listed}
 use Rattle.diagram.specs.declared.Table.{Table}
-use Rattle.diagram.specs.Build.{Valid}
+use Rattle.diagram.specs.Build.{Valid, Grown, Remembered, Restored, Cut}
+use Rattle.diagram.specs.Decisions.{at}
+use Rattle.diagram.proofs.Building.{lists_self}
+use Rattle.line_book.specs.declared.Book.{Book}
 use Rattle.line_book.specs.declared.Entry.{Entry}
 use Rattle.line_book.specs.declared.Question.{Question}
 use Rattle.line_book.specs.Standing.{Standing, nothing}
 use Rattle.line_book.specs.Histories.{Step, History, after, standing, Lawful, AllLawful}
-use Rattle.line_book.specs.Came.{View, view, room, Stands, Came}
+use Rattle.line_book.specs.Came.{View, view, room, Stands, Came, Lent}
 use Rattle.line_book.specs.Reading.{Right}
+use Rattle.line_book.specs.Seen.{seen}
+use Rattle.line_book.proofs.Carried.{book_valid, Carries, carries}
 use Rattle.line_book.proofs.Rights.{came_right}
 
 pub standing_more : (s : Standing) (h : History) (x : Step) → standing s (h ++ (x ∷ [])) ≡ after (standing s h) x
@@ -33,24 +41,58 @@ came_more h x v w size c l st =
       stands = subst P (sym (standing_more nothing h x)) st;
     }
 
+-- the lists of a table that was not touched, of one that grew, and of one that was cut
+pub lent_self : (s : Table) → Lent s s
+lent_self s = record { lists = lists_self s; size = refl; beyond = λ k h. refl }
+
+pub remembered_self : (b : Book) → Remembered b.table b.table
+remembered_self b = record { valid = book_valid b; nodes = refl; used = refl; lists = lists_self b.table }
+
+pub remembered : (s t : Table) → Restored s t → Remembered s t
+remembered s t r = record { valid = r.valid; nodes = r.nodes; used = r.used; lists = r.lists }
+
+pub lent_grown : (s t : Table) → Grown s t → Lent s t
+lent_grown s t g = record { lists = g.lists; size = g.size; beyond = λ k h. g.beyond k (omega (arith, g.valid.small)) }
+
+pub lent_cut : (s t : Table) (mark : ℕ) → Valid s → Cut s t mark → Lent s t
+lent_cut s t mark v c = record { lists = c.lists; size = c.size; beyond = λ k h. c.beyond k (omega (arith, v.small)) }
+
 -- What a call promises of every history that the book came from: the rules name its answer, and the book afterwards came from the longer one.
-pub record Changed (x : Step) (v w : View) : Type 0 where
-  pub lawful : (h : History) → Came h v → Lawful (room v) (standing nothing h) x
-  pub came : (h : History) → Came h v → Came (h ++ (x ∷ [])) w
-  pub right : (h : History) → Came h v → Right (standing nothing (h ++ (x ∷ []))) w
-
-pub changed : (x : Step) (v : View) (t : Table) (es : List Entry) (k : ℕ) (qs : List Question) (n : ℕ) → Valid t → length t.nodes.now ≡ length v.nodes →
-    ((h : History) → Came h v → Lawful (room v) (standing nothing h) x) → ((h : History) → Came h v → Stands (after (standing nothing h) x) (view t es k qs n)) →
-    Changed x v (view t es k qs n)
-changed x v t es k qs n valid size lawful stands = record {
-  lawful = lawful;
-  came = longer;
-  right = λ h c. came_right t es k qs n valid (h ++ (x ∷ [])) (longer h c);
+-- Refused, it also holds what it held.
+abbrev pub Promises : Book → Table → List Entry → List Question → Step → (refused : Type 0) → Type 0
+Promises b t es qs x p = record {
+  lawful : (h : History) → Came h (seen b) → Lawful (room (seen b)) (standing nothing h) x;
+  came : (h : History) → Came h (seen b) → Came (h ++ (x ∷ [])) (view t es qs);
+  right : (h : History) → Came h (seen b) → Right (standing nothing (h ++ (x ∷ []))) (view t es qs);
+  refused : p;
+  lent : Lent b.table t;
 }
-  where
-    longer : (h : History) → Came h v → Came (h ++ (x ∷ [])) (view t es k qs n)
-    longer h c = came_more h x v (view t es k qs n) size c (lawful h c) (stands h c)
 
--- a table with other items in its memo alone
-pub view_same : (s t : Table) (es : List Entry) (k : ℕ) (qs : List Question) (n : ℕ) → t.nodes.now ≡ s.nodes.now → t.used ≡ s.used → view t es k qs n ≡ view s es k qs n
-view_same s t es k qs n nodes used = λ i. record { nodes = nodes i; used = used i; entries = es; taken = k; questions = qs; asked = n }
+module _ (b : Book) (t : Table) where
+  same_view : Remembered b.table t → view t (listed b.entries) (listed b.questions) ≡ seen b
+  same_view r = λ i. record { nodes = r.nodes i; used = r.used i; entries = listed b.entries; questions = listed b.questions }
+
+  module _ (es : List Entry) (qs : List Question) (x : Step) (valid : Valid t) (lent : Lent b.table t)
+      (lawful : (h : History) → Came h (seen b) → Lawful (room (seen b)) (standing nothing h) x)
+      (stands : (h : History) → Came h (seen b) → Stands (after (standing nothing h) x) (view t es qs)) where
+    longer : (h : History) → Came h (seen b) → Came (h ++ (x ∷ [])) (view t es qs)
+    longer h c = came_more h x (seen b) (view t es qs) lent.size c (lawful h c) (stands h c)
+
+    pub changed : (p : Type 0) → p → Promises b t es qs x p
+    changed p why = record { lawful = lawful; came = longer; right = λ h c. came_right t es qs valid (h ++ (x ∷ [])) (longer h c); refused = why; lent = lent }
+
+  -- refused, over a table that differs in its memo at most
+  pub refused : (x : Step) → ((s : Standing) → after s x ≡ s) → Remembered b.table t → ((h : History) → Came h (seen b) → Lawful (room (seen b)) (standing nothing h) x) →
+      Promises b t (listed b.entries) (listed b.questions) x (view t (listed b.entries) (listed b.questions) ≡ seen b)
+  refused x same r lawful =
+      let lent : Lent b.table t = record { lists = r.lists; size = ap length r.nodes; beyond = λ k h. ap (λ ns. at ns k) r.nodes } in
+      changed (listed b.entries) (listed b.questions) x r.valid lent lawful
+      (λ h c. subst (λ (s : Standing). Stands s (view t (listed b.entries) (listed b.questions))) (sym (same (standing nothing h)))
+      (subst (Stands (standing nothing h)) (sym (same_view r)) c.stands))
+      _ (same_view r)
+
+  pub carries_same : Remembered b.table t → Carries t b.entries b.questions
+  carries_same r = carries t b.entries b.questions r.valid (∥∥₁_map b.came (λ k. (k.0, subst (Came k.0) (sym (same_view r)) k.1)))
+
+  pub carries_more : (es : Bounded Entry 8) (qs : Bounded Question 64) (x : Step) → Valid t → ((h : History) → Came h (seen b) → Came (h ++ (x ∷ [])) (view t (listed es) (listed qs))) → Carries t es qs
+  carries_more es qs x valid came = carries t es qs valid (∥∥₁_map b.came (λ k. (k.0 ++ (x ∷ []), came k.0 k.1)))

@@ -10,11 +10,10 @@ use Rattle.semantics.specs.Formulas.{formed_by, question_forms}
 use Rattle.line_book.specs.declared.fault.BookFault.{BookFault}
 use Rattle.line_book.specs.declared.fault.BookFault.TheVariants.{Unfolding, Entries, Nodes, NoEntry, Pattern, Questions}
 use Rattle.line_book.specs.declared.Taken.{Taken as TakenFigures}
-use Rattle.line_book.specs.declared.Answer.{Answer}
-use Rattle.line_book.specs.declared.Answer.TheVariants.{Taken, Asked, Refused, Cleared}
+use Rattle.line_book.specs.declared.Answer.TheVariants.{Taken, Asked, Cleared}
 use Rattle.line_book.specs.Standing.{Entered, Standing, numbered}
 use Rattle.line_book.specs.Rooms.{Room, NoRoom}
-use Rattle.line_book.specs.Histories.{Act, taking, asking, clearing, Step, step, History, after, PatternOf, TakeRefused, TakeAccepted, TakeAnswers, QuestionRefused, QuestionAccepted, QuestionAnswers, Lawful, AllLawful, acts, RulesDecide}
+use Rattle.line_book.specs.Histories.{Act, taking, asking, clearing, Reply, Step, step, History, after, PatternOf, TakeRefused, TakeAccepted, TakeAnswers, QuestionRefused, QuestionAccepted, QuestionAnswers, Lawful, AllLawful, acts, RulesDecide}
 use Rattle.line_book.proofs.Numbers.{one_number, not_both}
 
 ok_err : {A E : Type 0} {x : A} {e : E} {r : Result A E} → r ≡ Ok x → r ≡ Err e → ⊥
@@ -80,17 +79,17 @@ module _ (room : ℕ) (s : Standing) (bytes : List ℕ) where
   one_fault Pattern g a b = absurd a
   one_fault Questions g a b = absurd a
 
-  one_take : (r q : Answer) → TakeAnswers room s bytes r → TakeAnswers room s bytes q → r ≡ q
-  one_take (Taken t) (Taken u) a b = ap Taken (one_taken t u a b)
-  one_take (Taken t) (Asked k) a b = absurd b
-  one_take (Taken t) (Refused f) a b = absurd (taken_not t f a b)
-  one_take (Taken t) Cleared a b = absurd b
-  one_take (Asked k) q a b = absurd a
-  one_take (Refused f) (Taken u) a b = absurd (taken_not u f b a)
-  one_take (Refused f) (Asked k) a b = absurd b
-  one_take (Refused f) (Refused g) a b = ap Refused (one_fault f g a b)
-  one_take (Refused f) Cleared a b = absurd b
-  one_take Cleared q a b = absurd a
+  one_take : (r q : Reply) → TakeAnswers room s bytes r → TakeAnswers room s bytes q → r ≡ q
+  one_take (Ok (Taken t)) (Ok (Taken u)) a b = ap (λ x. Ok (Taken x)) (one_taken t u a b)
+  one_take (Ok (Taken t)) (Ok (Asked k)) a b = absurd b
+  one_take (Ok (Taken t)) (Ok Cleared) a b = absurd b
+  one_take (Ok (Taken t)) (Err f) a b = absurd (taken_not t f a b)
+  one_take (Ok (Asked k)) q a b = absurd a
+  one_take (Ok Cleared) q a b = absurd a
+  one_take (Err f) (Ok (Taken u)) a b = absurd (taken_not u f b a)
+  one_take (Err f) (Ok (Asked k)) a b = absurd b
+  one_take (Err f) (Ok Cleared) a b = absurd b
+  one_take (Err f) (Err g) a b = ap Err (one_fault f g a b)
 
 module _ (room : ℕ) (s : Standing) (e : ℕ) (pattern : List ℕ) where
   -- the question is of one program
@@ -136,19 +135,19 @@ module _ (room : ℕ) (s : Standing) (e : ℕ) (pattern : List ℕ) where
   one_refusal Questions Pattern a b = absurd (other_pattern a.0 b.0 a.1 b.1 a.2 b.2)
   one_refusal Questions Questions a b = refl
 
-  one_question : (r q : Answer) → QuestionAnswers room s e pattern r → QuestionAnswers room s e pattern q → r ≡ q
-  one_question (Taken t) q a b = absurd a
-  one_question (Asked k) (Taken t) a b = absurd b
-  one_question (Asked k) (Asked j) a b = ap Asked (a.5 ∙ sym b.5)
-  one_question (Asked k) (Refused g) a b = absurd (asked_not k g a b)
-  one_question (Asked k) Cleared a b = absurd b
-  one_question (Refused f) (Taken t) a b = absurd b
-  one_question (Refused f) (Asked k) a b = absurd (asked_not k f b a)
-  one_question (Refused f) (Refused g) a b = ap Refused (one_refusal f g a b)
-  one_question (Refused f) Cleared a b = absurd b
-  one_question Cleared q a b = absurd a
+  one_question : (r q : Reply) → QuestionAnswers room s e pattern r → QuestionAnswers room s e pattern q → r ≡ q
+  one_question (Ok (Taken t)) q a b = absurd a
+  one_question (Ok (Asked k)) (Ok (Taken t)) a b = absurd b
+  one_question (Ok (Asked k)) (Ok (Asked j)) a b = ap (λ x. Ok (Asked x)) (a.5 ∙ sym b.5)
+  one_question (Ok (Asked k)) (Ok Cleared) a b = absurd b
+  one_question (Ok (Asked k)) (Err g) a b = absurd (asked_not k g a b)
+  one_question (Ok Cleared) q a b = absurd a
+  one_question (Err f) (Ok (Taken t)) a b = absurd b
+  one_question (Err f) (Ok (Asked k)) a b = absurd (asked_not k f b a)
+  one_question (Err f) (Ok Cleared) a b = absurd b
+  one_question (Err f) (Err g) a b = ap Err (one_refusal f g a b)
 
-one_answer : (room : ℕ) (s : Standing) (a : Act) (r q : Answer) → Lawful room s (step a r) → Lawful room s (step a q) → r ≡ q
+one_answer : (room : ℕ) (s : Standing) (a : Act) (r q : Reply) → Lawful room s (step a r) → Lawful room s (step a q) → r ≡ q
 one_answer room s (taking bytes) r q l m = one_take room s bytes r q l m
 one_answer room s (asking e pattern) r q l m = one_question room s e pattern r q l m
 one_answer room s clearing r q l m = l ∙ sym m
@@ -168,24 +167,24 @@ one_history room s (step a r ∷ h) (step b q ∷ g) e l m =
     let hg : h ≡ g = one_history room (after s (step a r)) h g rest l.1 (subst A (sym same) m.1) in
     cc
 
-take_wants : (room : ℕ) (s : Standing) (bytes : List ℕ) (p : Program) (τ : Ty) (r : Answer) → Lawful room s (step (taking bytes) r) → Accepted bytes p τ → length s.entries < 8 →
-    (r ≡ Refused Nodes) ↔ NoRoom room (s.formulas ++ formed_by (unfolded p))
+take_wants : (room : ℕ) (s : Standing) (bytes : List ℕ) (p : Program) (τ : Ty) (r : Reply) → Lawful room s (step (taking bytes) r) → Accepted bytes p τ → length s.entries < 8 →
+    (r ≡ Err Nodes) ↔ NoRoom room (s.formulas ++ formed_by (unfolded p))
 take_wants room s bytes p τ r l acc few = (
   (λ e.
-      let P : Answer → Type 0 = λ x. TakeAnswers room s bytes x in
+      let P : Reply → Type 0 = λ x. TakeAnswers room s bytes x in
       let z = subst P e l in
       subst (λ (x : Program × Ty). NoRoom room (s.formulas ++ formed_by (unfolded x.0))) (one_program room s bytes z.0 p z.1 τ z.2 acc) z.4),
-  (λ n. one_take room s bytes r (Refused Nodes) l (p, τ, acc, few, n)),
+  (λ n. one_take room s bytes r (Err Nodes) l (p, τ, acc, few, n)),
 )
 
-question_wants : (room : ℕ) (s : Standing) (e : ℕ) (pattern : List ℕ) (x : Entered) (r : Answer) → Lawful room s (step (asking e pattern) r) → numbered s.entries e ≡ Some x → PatternOf x.1 pattern → length s.questions < 64 →
-    (r ≡ Refused Nodes) ↔ NoRoom room (s.formulas ++ question_forms (unfolded x.0) pattern)
+question_wants : (room : ℕ) (s : Standing) (e : ℕ) (pattern : List ℕ) (x : Entered) (r : Reply) → Lawful room s (step (asking e pattern) r) → numbered s.entries e ≡ Some x → PatternOf x.1 pattern → length s.questions < 64 →
+    (r ≡ Err Nodes) ↔ NoRoom room (s.formulas ++ question_forms (unfolded x.0) pattern)
 question_wants room s e pattern x r l there fits few = (
   (λ d.
-      let P : Answer → Type 0 = λ y. QuestionAnswers room s e pattern y in
+      let P : Reply → Type 0 = λ y. QuestionAnswers room s e pattern y in
       let z = subst P d l in
       subst (λ (y : Entered). NoRoom room (s.formulas ++ question_forms (unfolded y.0) pattern)) (one_number z.1 there) z.4),
-  (λ n. one_question room s e pattern r (Refused Nodes) l (x, there, fits, few, n)),
+  (λ n. one_question room s e pattern r (Err Nodes) l (x, there, fits, few, n)),
 )
 
 pub rules_decide_lem : RulesDecide

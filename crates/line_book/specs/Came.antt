@@ -16,23 +16,19 @@ use Rattle.line_book.specs.declared.Question.{Question}
 use Rattle.line_book.specs.Standing.{Entered, Posed, Standing, nothing, numbered}
 use Rattle.line_book.specs.Histories.{History, standing, AllLawful}
 
--- what a book holds, but for its memo
+-- what a book holds, but for its memo: its nodes, and the entries and questions that stand
 pub record View : Type 0 where
   pub nodes : List Node
   pub used : ℕ
   pub entries : List Entry
-  pub taken : ℕ
   pub questions : List Question
-  pub asked : ℕ
 
-abbrev pub view : Table → List Entry → ℕ → List Question → ℕ → View
-view table entries taken questions asked = record {
+abbrev pub view : Table → List Entry → List Question → View
+view table entries questions = record {
   nodes = table.nodes.now;
   used = table.used;
   entries = entries;
-  taken = taken;
   questions = questions;
-  asked = asked;
 }
 
 -- the nodes that it keeps
@@ -78,8 +74,8 @@ pub record QuestionOf (ns : List Node) (q : Question) (x : Posed) : Type 0 where
 
 -- a book holds what stands, and each of its nodes is needed by the formulas formed
 pub record Stands (s : Standing) (v : View) : Type 0 where
-  pub taken_are : v.taken ≡ length s.entries
-  pub asked_are : v.asked ≡ length s.questions
+  pub taken_are : length v.entries ≡ length s.entries
+  pub asked_are : length v.questions ≡ length s.questions
   pub entries_are : (k : ℕ) (x : Entered) → numbered s.entries k ≡ Some x → EntryOf (kept v) (model_at v k) x
   pub questions_are : (k : ℕ) (x : Posed) → numbered s.questions k ≡ Some x → QuestionOf (kept v) (question_at v k) x
   pub asked_of : (k : ℕ) (x : Posed) → numbered s.questions k ≡ Some x → numbered s.entries x.entry ≡ Some x.entered

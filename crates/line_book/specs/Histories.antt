@@ -9,7 +9,7 @@ use Rattle.line_book.specs.declared.fault.BookFault.{BookFault}
 use Rattle.line_book.specs.declared.fault.BookFault.TheVariants.{Unfolding, Entries, Nodes, NoEntry, Pattern, Questions}
 use Rattle.line_book.specs.declared.Taken.{Taken as TakenFigures}
 use Rattle.line_book.specs.declared.Answer.{Answer}
-use Rattle.line_book.specs.declared.Answer.TheVariants.{Taken, Asked, Refused, Cleared}
+use Rattle.line_book.specs.declared.Answer.TheVariants.{Taken, Asked, Cleared}
 use Rattle.line_book.specs.Standing.{Entered, Standing, nothing, with_entry, with_question, numbered}
 use Rattle.line_book.specs.Rooms.{Room, NoRoom}
 
@@ -19,36 +19,40 @@ pub data Act : Type 0 where
   asking : (entry : ℕ) (pattern : List ℕ) → Act
   clearing : Act
 
+-- what it was answered
+abbrev pub Reply : Type 0
+Reply = Result Answer BookFault
+
 -- such a call with its answer
 pub data Step : Type 0 where
-  step : Act → Answer → Step
+  step : Act → Reply → Step
 
 abbrev pub History : Type 0
 History = List Step
 
 -- what take and question answer
-abbrev pub take_answer : Result TakenFigures BookFault → Answer
-take_answer (Ok t) = Taken t
-take_answer (Err f) = Refused f
+abbrev pub take_answer : Result TakenFigures BookFault → Reply
+take_answer (Ok t) = Ok (Taken t)
+take_answer (Err f) = Err f
 
-abbrev pub question_answer : Result ℕ BookFault → Answer
-question_answer (Ok k) = Asked k
-question_answer (Err f) = Refused f
+abbrev pub question_answer : Result ℕ BookFault → Reply
+question_answer (Ok k) = Ok (Asked k)
+question_answer (Err f) = Err f
 
 -- what stands after a take of these bytes: one entry more where it was accepted
-abbrev pub after_take : Standing → Result Entered UnfoldFault → Answer → Standing
-after_take s (Ok x) (Taken t) = with_entry s x
-after_take s (Ok x) (Asked k) = s
-after_take s (Ok x) (Refused f) = s
-after_take s (Ok x) Cleared = s
+abbrev pub after_take : Standing → Result Entered UnfoldFault → Reply → Standing
+after_take s (Ok x) (Ok (Taken t)) = with_entry s x
+after_take s (Ok x) (Ok (Asked k)) = s
+after_take s (Ok x) (Ok Cleared) = s
+after_take s (Ok x) (Err f) = s
 after_take s (Err fault) a = s
 
 -- what stands after a question of an entry: one question more where it was accepted
-abbrev pub after_question : Standing → (entry : ℕ) (pattern : List ℕ) → Option Entered → Answer → Standing
-after_question s e pattern (Some x) (Taken t) = s
-after_question s e pattern (Some x) (Asked k) = with_question s (record { entry = e; entered = x; pattern = pattern })
-after_question s e pattern (Some x) (Refused f) = s
-after_question s e pattern (Some x) Cleared = s
+abbrev pub after_question : Standing → (entry : ℕ) (pattern : List ℕ) → Option Entered → Reply → Standing
+after_question s e pattern (Some x) (Ok (Taken t)) = s
+after_question s e pattern (Some x) (Ok (Asked k)) = with_question s (record { entry = e; entered = x; pattern = pattern })
+after_question s e pattern (Some x) (Ok Cleared) = s
+after_question s e pattern (Some x) (Err f) = s
 after_question s e pattern None a = s
 
 abbrev pub after : Standing → Step → Standing
@@ -76,11 +80,11 @@ TakeAccepted room s bytes t =
     (p : Program) × (τ : Ty) × Accepted bytes p τ × (length s.entries < 8) × Room room (s.formulas ++ formed_by (unfolded p))
     × (t.entry ≡ length s.entries) × (t.leaves ≡ leaves τ) × (t.flips ≡ flips (unfolded p))
 
-abbrev pub TakeAnswers : (room : ℕ) → Standing → (bytes : List ℕ) → Answer → Type 0
-TakeAnswers room s bytes (Taken t) = TakeAccepted room s bytes t
-TakeAnswers room s bytes (Asked k) = ⊥
-TakeAnswers room s bytes (Refused f) = TakeRefused room s bytes f
-TakeAnswers room s bytes Cleared = ⊥
+abbrev pub TakeAnswers : (room : ℕ) → Standing → (bytes : List ℕ) → Reply → Type 0
+TakeAnswers room s bytes (Ok (Taken t)) = TakeAccepted room s bytes t
+TakeAnswers room s bytes (Ok (Asked k)) = ⊥
+TakeAnswers room s bytes (Ok Cleared) = ⊥
+TakeAnswers room s bytes (Err f) = TakeRefused room s bytes f
 
 -- a pattern has one byte a leaf, and none above 2
 abbrev pub PatternOf : Ty → (pattern : List ℕ) → Type 0
@@ -103,17 +107,17 @@ QuestionAccepted room s e pattern k =
     (x : Entered) × (numbered s.entries e ≡ Some x) × PatternOf x.1 pattern × (length s.questions < 64)
     × Room room (s.formulas ++ question_forms (unfolded x.0) pattern) × (k ≡ length s.questions)
 
-abbrev pub QuestionAnswers : (room : ℕ) → Standing → (entry : ℕ) (pattern : List ℕ) → Answer → Type 0
-QuestionAnswers room s e pattern (Taken t) = ⊥
-QuestionAnswers room s e pattern (Asked k) = QuestionAccepted room s e pattern k
-QuestionAnswers room s e pattern (Refused f) = QuestionRefused room s e pattern f
-QuestionAnswers room s e pattern Cleared = ⊥
+abbrev pub QuestionAnswers : (room : ℕ) → Standing → (entry : ℕ) (pattern : List ℕ) → Reply → Type 0
+QuestionAnswers room s e pattern (Ok (Taken t)) = ⊥
+QuestionAnswers room s e pattern (Ok (Asked k)) = QuestionAccepted room s e pattern k
+QuestionAnswers room s e pattern (Ok Cleared) = ⊥
+QuestionAnswers room s e pattern (Err f) = QuestionRefused room s e pattern f
 
 -- the answer is the one that the rules name
 abbrev pub Lawful : (room : ℕ) → Standing → Step → Type 0
 Lawful room s (step (taking bytes) a) = TakeAnswers room s bytes a
 Lawful room s (step (asking e pattern) a) = QuestionAnswers room s e pattern a
-Lawful room s (step clearing a) = a ≡ Cleared
+Lawful room s (step clearing a) = a ≡ Ok Cleared
 
 -- so is each answer of a history
 unfoldable pub AllLawful : (room : ℕ) → Standing → History → Type 0
@@ -128,9 +132,9 @@ acts (step a r ∷ h) = a ∷ acts h
 -- The rules name one answer to each call, and so the calls decide the history. A take or a question that passes the earlier
 -- checks is refused for want of nodes exactly when no ordered table of the book's length holds the formulas concerned.
 pub record RulesDecide : Type 0 where
-  pub one_answer : (room : ℕ) (s : Standing) (a : Act) (r q : Answer) → Lawful room s (step a r) → Lawful room s (step a q) → r ≡ q
+  pub one_answer : (room : ℕ) (s : Standing) (a : Act) (r q : Reply) → Lawful room s (step a r) → Lawful room s (step a q) → r ≡ q
   pub one_history : (room : ℕ) (s : Standing) (h g : History) → acts h ≡ acts g → AllLawful room s h → AllLawful room s g → h ≡ g
-  pub take_wants : (room : ℕ) (s : Standing) (bytes : List ℕ) (p : Program) (τ : Ty) (r : Answer) → Lawful room s (step (taking bytes) r) → Accepted bytes p τ → length s.entries < 8 →
-      (r ≡ Refused Nodes) ↔ NoRoom room (s.formulas ++ formed_by (unfolded p))
-  pub question_wants : (room : ℕ) (s : Standing) (e : ℕ) (pattern : List ℕ) (x : Entered) (r : Answer) → Lawful room s (step (asking e pattern) r) → numbered s.entries e ≡ Some x → PatternOf x.1 pattern → length s.questions < 64 →
-      (r ≡ Refused Nodes) ↔ NoRoom room (s.formulas ++ question_forms (unfolded x.0) pattern)
+  pub take_wants : (room : ℕ) (s : Standing) (bytes : List ℕ) (p : Program) (τ : Ty) (r : Reply) → Lawful room s (step (taking bytes) r) → Accepted bytes p τ → length s.entries < 8 →
+      (r ≡ Err Nodes) ↔ NoRoom room (s.formulas ++ formed_by (unfolded p))
+  pub question_wants : (room : ℕ) (s : Standing) (e : ℕ) (pattern : List ℕ) (x : Entered) (r : Reply) → Lawful room s (step (asking e pattern) r) → numbered s.entries e ≡ Some x → PatternOf x.1 pattern → length s.questions < 64 →
+      (r ≡ Err Nodes) ↔ NoRoom room (s.formulas ++ question_forms (unfolded x.0) pattern)

@@ -8,30 +8,24 @@ ghost use Rattle.line_book.specs.Rooms.{Fewest};
 ghost use Rattle.line_book.specs.Seen.{seen};
 ghost use Rattle.line_book.specs.Standing.{nothing};
 
-use super::fault::CountFault;
+use super::fault::{BookFault, CountFault};
 use super::{Answer, Book, Call};
 use diagram::{MemoItem, Node};
 use weights::Weight;
 
 impl<'a> Book<'a> {
     // Makes one call of a list.
-    pub fn make(&mut self, call: Call) -> Answer
+    pub fn make(&mut self, call: Call) -> Result<Answer, BookFault>
         ensures lawful { (h : History) → Came h (seen self.old) → Lawful (room (seen self.old)) (standing nothing h) (step (act call.entry) result) }
         ensures came { (h : History) → Came h (seen self.old) → Came (h ++ (step (act call.entry) result ∷ [])) (seen self.new) }
         ensures lent { Lent self.old.table self.new.table }
     {
         match call {
-            Call::Take(program) => match self.take(program) {
-                Ok(taken) => Answer::Taken(taken),
-                Err(fault) => Answer::Refused(fault),
-            },
-            Call::Question(entry, pattern) => match self.question(entry, pattern) {
-                Ok(number) => Answer::Asked(number),
-                Err(fault) => Answer::Refused(fault),
-            },
+            Call::Take(program) => Ok(Answer::Taken(self.take(program)?)),
+            Call::Question(entry, pattern) => Ok(Answer::Asked(self.question(entry, pattern)?)),
             Call::Clear => {
                 self.clear();
-                Answer::Cleared
+                Ok(Answer::Cleared)
             }
         }
     }
@@ -42,7 +36,7 @@ pub fn replay<'a>(
     nodes: &'a mut [Node],
     memo: &'a mut [MemoItem],
     calls: &[Call],
-    answers: &mut [Answer],
+    answers: &mut [Result<Answer, BookFault>],
 ) -> Book<'a>
     ensures came { Came (told calls.now answers.new) (seen result) }
     ensures lawful { AllLawful (min (length nodes.old) 16384) nothing (told calls.now answers.new) }
@@ -80,7 +74,7 @@ pub fn replay_and_ask<'a, W: Weight>(
     nodes: &'a mut [Node],
     memo: &'a mut [MemoItem],
     calls: &[Call],
-    answers: &mut [Answer],
+    answers: &mut [Result<Answer, BookFault>],
     inquiry: &Inquiry<W>,
     cells: &mut [W],
     findings: &mut Findings<W>,

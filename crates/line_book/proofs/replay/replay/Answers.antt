@@ -5,7 +5,7 @@ use Rattle.line_book.specs.Log.{told}
 use Rattle.line_book.specs.Seen.{seen}
 use Rattle.line_book.specs.Standing.{nothing}
 use Rattle.line_book.proofs.Logs.{told_none, told_more, told_all, lent_on}
-use Rattle.line_book.proofs.Taking.{lent_self}
+use Rattle.line_book.proofs.Longer.{lent_self}
 use Rattle.line_book.proofs.replay.replay.Goals as goal
 
 pub loop-i-init : goal.loop-i-init
