@@ -44,9 +44,12 @@ pub fn replay<'a>(
     ensures over { Over nodes.entry memo.entry result.table }
 {
     let mut book = Book::new(nodes, memo);
-    let count = calls.len().min(answers.len());
-    for i in 0..count {
-        answers[i] = book.make(calls[i]);
+    // No zip of both lists: after it a proof knows nothing of what was written through the answers.
+    for (i, answer) in answers.iter_mut().enumerate() {
+        let Some(call) = calls.get(i) else {
+            break;
+        };
+        *answer = book.make(*call);
     }
     book
 }
@@ -61,6 +64,7 @@ pub struct Inquiry<'y, 'n, W> {
 }
 
 // What was found: how many nodes the book keeps, whether the count was accepted, with its sum, and whether the two questions are alike.
+// The sum stands beside `counted` and not in it, as a refused count leaves the sum that was there before.
 #[derive(Drop)]
 pub struct Findings<W> {
     pub used: usize,
