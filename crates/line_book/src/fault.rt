@@ -4,7 +4,7 @@ ghost use Rattle.line_book.specs.declared.fault.BookFault.TheVariants.{Unfolding
 ghost use Rattle.std.specs.Prelude.{◌≡◌};
 
 use diagram::Full;
-use language::fault::{Fault, Layer as ProgramLayer, UnfoldFault};
+use language::fault::{Fault, Layer as ProgramLayer, Refusal, UnfoldFault};
 
 // The layer that refuses a call: one of those that refuse a program, the book, or counting.
 #[derive(Clone, Copy, Debug, PartialEq, Eq)]
@@ -12,14 +12,6 @@ pub enum Layer {
     Program(ProgramLayer),
     Book,
     Counting,
-}
-
-// A refusal as it is reported: its number, the layer that it comes from, and the byte that it is about.
-#[derive(Clone, Copy, Debug, PartialEq, Eq)]
-pub struct Refusal {
-    pub number: u8,
-    pub layer: Layer,
-    pub place: usize,
 }
 
 // Why a program is not taken, or a question not accepted.
@@ -39,11 +31,12 @@ pub enum BookFault {
     Questions,
 }
 
-impl BookFault {
-    // The refusal that the fault stands for.
-    pub fn refusal(&self) -> Refusal
-        ensures { result ≡ refusal_of_book self.now }
-    {
+impl Fault for BookFault {
+    type Layer = Layer;
+
+    ghost means = { refusal_of_book };
+
+    fn refusal(&self) -> Refusal<Layer> {
         let number = match self {
             BookFault::Unfolding(fault) => {
                 let refusal = fault.refusal();
@@ -94,11 +87,12 @@ pub enum CountFault {
     Cells,
 }
 
-impl CountFault {
-    // The refusal that the fault stands for.
-    pub fn refusal(&self) -> Refusal
-        ensures { result ≡ refusal_of_count self.now }
-    {
+impl Fault for CountFault {
+    type Layer = Layer;
+
+    ghost means = { refusal_of_count };
+
+    fn refusal(&self) -> Refusal<Layer> {
         let number = match self {
             CountFault::NoQuestion => 17,
             CountFault::Weights => 18,
