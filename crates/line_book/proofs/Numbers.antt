@@ -5,63 +5,41 @@ use Rattle.std.proofs.Math.Seq.{get_or-append_seam}
 use Rattle.std.proofs.lemmas.Option.{slice_get_cases, slice_get_within, get_or_from_slice_get}
 use Rattle.bounded.specs.declared.Bounded.{Bounded}
 use Rattle.bounded.specs.Listed.{listed}
-use Rattle.line_book.specs.Standing.{numbered}
-
-some_same : {A : Type 0} {x y : A} → Some x ≡ Some y → x ≡ y
-some_same e = cc
-
-some_none : {A : Type 0} {x : A} {o : Option A} → o ≡ Some x → o ≡ None → ⊥
-some_none e n = let z : ◌≡◌ {A = ℕ} 0 1 = cc in omega arith
 
 module _ {A : Type 0} where
   pub one_number : {o : Option A} {x y : A} → o ≡ Some x → o ≡ Some y → x ≡ y
   one_number e d = cc
 
   pub not_both : {o : Option A} {x : A} → o ≡ Some x → o ≡ None → ⊥
-  not_both e n = some_none e n
+  not_both e n = cc
 
-  pub number_there : (xs : List A) (k : ℕ) → k < length xs → (x : A) × (numbered xs k ≡ Some x)
-  unfolding numbered
+  pub number_there : (xs : List A) (k : ℕ) → k < length xs → (x : A) × (slice_get xs k ≡ Some x)
   number_there [] k h = absurd (omega arith)
   number_there (x ∷ xs) zero h = (x, refl)
   number_there (x ∷ xs) (suc k) h = number_there xs k (omega arith)
 
-  pub number_past : (xs : List A) (k : ℕ) → length xs ≤ k → numbered xs k ≡ None
-  unfolding numbered
-  number_past [] k h = refl
-  number_past (x ∷ xs) zero h = absurd (omega arith)
-  number_past (x ∷ xs) (suc k) h = number_past xs k (omega arith)
-
-  pub number_below : (xs : List A) (k : ℕ) (x : A) → numbered xs k ≡ Some x → k < length xs
-  unfolding numbered
-  number_below [] k x e = absurd (some_none e refl)
-  number_below (y ∷ xs) zero x e = omega arith
-  number_below (y ∷ xs) (suc k) x e = let h = number_below xs k x e in omega arith
-
   -- one element more: the old ones keep their numbers, and the new one has the next
-  pub number_kept : (xs : List A) (y : A) (k : ℕ) (x : A) → numbered xs k ≡ Some x → numbered (xs ++ (y ∷ [])) k ≡ Some x
-  unfolding numbered
-  number_kept [] y k x e = absurd (some_none e refl)
+  pub number_kept : (xs : List A) (y : A) (k : ℕ) (x : A) → slice_get xs k ≡ Some x → slice_get (xs ++ (y ∷ [])) k ≡ Some x
+  number_kept [] y k x e = cc
   number_kept (z ∷ xs) y zero x e = e
   number_kept (z ∷ xs) y (suc k) x e = number_kept xs y k x e
 
-  pub number_of : (xs : List A) (y : A) (k : ℕ) (x : A) → numbered (xs ++ (y ∷ [])) k ≡ Some x → (numbered xs k ≡ Some x) ⊎ ((k ≡ length xs) × (x ≡ y))
-  unfolding numbered
-  number_of [] y zero x e = inr (refl, sym (some_same e))
-  number_of [] y (suc k) x e = absurd (some_none e refl)
+  pub number_of : (xs : List A) (y : A) (k : ℕ) (x : A) → slice_get (xs ++ (y ∷ [])) k ≡ Some x → (slice_get xs k ≡ Some x) ⊎ ((k ≡ length xs) × (x ≡ y))
+  number_of [] y zero x e = inr (refl, cc)
+  number_of [] y (suc k) x e = cc
   number_of (z ∷ xs) y zero x e = inl e
   number_of (z ∷ xs) y (suc k) x e = more (number_of xs y k x e)
     where
-      more : (numbered xs k ≡ Some x) ⊎ ((k ≡ length xs) × (x ≡ y)) → (numbered xs k ≡ Some x) ⊎ ((suc k ≡ suc (length xs)) × (x ≡ y))
+      more : (slice_get xs k ≡ Some x) ⊎ ((k ≡ length xs) × (x ≡ y)) → (slice_get xs k ≡ Some x) ⊎ ((suc k ≡ suc (length xs)) × (x ≡ y))
       more (inl h) = inl h
       more (inr h) = inr (ap suc h.0, h.1)
 
 -- one element more on both sides, where what is said of the elements of one number holds of the new ones too
 module _ {A B : Type 0} (P : B → A → Type 0) (xs : List A) (x : A) (ys : List B) (y d : B) (size : length ys ≡ length xs) (here : P y x) where
-  pub each_more : ((k : ℕ) (z : A) → numbered xs k ≡ Some z → P (get_or ys k d) z) → (k : ℕ) (z : A) → numbered (xs ++ (x ∷ [])) k ≡ Some z → P (get_or (ys ++ (y ∷ [])) k d) z
+  pub each_more : ((k : ℕ) (z : A) → slice_get xs k ≡ Some z → P (get_or ys k d) z) → (k : ℕ) (z : A) → slice_get (xs ++ (x ∷ [])) k ≡ Some z → P (get_or (ys ++ (y ∷ [])) k d) z
   each_more old k z e = ⊎_elim
-      (λ (h : numbered xs k ≡ Some z).
-      let l = number_below xs k z h in
+      (λ (h : slice_get xs k ≡ Some z).
+      let l = slice_get_within xs k z h in
       subst (λ (v : B). P v z) (sym (get_or-append ys (y ∷ []) d k (omega arith))) (old k z h))
       (λ (h : (k ≡ length xs) × (z ≡ x)).
       let last : get_or (ys ++ (y ∷ [])) k d ≡ y = ap (λ (i : ℕ). get_or (ys ++ (y ∷ [])) i d) (h.0 ∙ sym size) ∙ get_or-append_seam ys y [] d in

@@ -1,5 +1,5 @@
 -- The rules name one answer.
-use Rattle.std.proofs.Common.{◌≡◌, ℕ, ◌<◌, ◌↔◌, List, [], ◌∷◌, ◌++◌, length, Some, Ok, Err, Result, sym, refl, ap, ◌∙◌, subst, arith}
+use Rattle.std.proofs.Common.{◌≡◌, ℕ, ◌<◌, ◌↔◌, List, [], ◌∷◌, ◌++◌, length, Some, Ok, Err, Result, sym, refl, ap, ◌∙◌, subst, arith, slice_get}
 use Rattle.language.specs.declared.fault.UnfoldFault.{UnfoldFault}
 use Rattle.language.specs.Accepting.{Accepted}
 use Rattle.language.specs.Syntax.{Ty, Program, leaves}
@@ -11,7 +11,7 @@ use Rattle.line_book.specs.declared.fault.BookFault.{BookFault}
 use Rattle.line_book.specs.declared.fault.BookFault.TheVariants.{Unfolding, Entries, Nodes, NoEntry, Pattern, Questions}
 use Rattle.line_book.specs.declared.Taken.{Taken as TakenFigures}
 use Rattle.line_book.specs.declared.Answer.TheVariants.{Taken, Asked, Cleared}
-use Rattle.line_book.specs.Standing.{Entered, Standing, numbered}
+use Rattle.line_book.specs.Standing.{Entered, Standing}
 use Rattle.line_book.specs.Rooms.{Room, NoRoom}
 use Rattle.line_book.specs.Histories.{Act, taking, asking, clearing, Reply, Step, step, History, after, PatternOf, TakeRefused, TakeAccepted, TakeAnswers, QuestionRefused, QuestionAccepted, QuestionAnswers, Lawful, AllLawful, acts, RulesDecide}
 use Rattle.line_book.proofs.Numbers.{one_number, not_both}
@@ -93,10 +93,10 @@ module _ (room : ℕ) (s : Standing) (bytes : List ℕ) where
 
 module _ (room : ℕ) (s : Standing) (e : ℕ) (pattern : List ℕ) where
   -- the question is of one program
-  asked_room_not : (x y : Entered) → numbered s.entries e ≡ Some x → numbered s.entries e ≡ Some y → Room room (s.formulas ++ question_forms (unfolded x.0) pattern) → NoRoom room (s.formulas ++ question_forms (unfolded y.0) pattern) → ⊥
+  asked_room_not : (x y : Entered) → slice_get s.entries e ≡ Some x → slice_get s.entries e ≡ Some y → Room room (s.formulas ++ question_forms (unfolded x.0) pattern) → NoRoom room (s.formulas ++ question_forms (unfolded y.0) pattern) → ⊥
   asked_room_not x y a b r n = no_both room (s.formulas ++ question_forms (unfolded y.0) pattern) (subst (λ (z : Entered). Room room (s.formulas ++ question_forms (unfolded z.0) pattern)) (one_number a b) r) n
 
-  other_pattern : (x y : Entered) → numbered s.entries e ≡ Some x → numbered s.entries e ≡ Some y → PatternOf x.1 pattern → (PatternOf y.1 pattern → ⊥) → ⊥
+  other_pattern : (x y : Entered) → slice_get s.entries e ≡ Some x → slice_get s.entries e ≡ Some y → PatternOf x.1 pattern → (PatternOf y.1 pattern → ⊥) → ⊥
   other_pattern x y a b fits not = not (subst (λ (z : Entered). PatternOf z.1 pattern) (one_number a b) fits)
 
   asked_not : (k : ℕ) (f : BookFault) → QuestionAccepted room s e pattern k → QuestionRefused room s e pattern f → ⊥
@@ -177,7 +177,7 @@ take_wants room s bytes p τ r l acc few = (
   (λ n. one_take room s bytes r (Err Nodes) l (p, τ, acc, few, n)),
 )
 
-question_wants : (room : ℕ) (s : Standing) (e : ℕ) (pattern : List ℕ) (x : Entered) (r : Reply) → Lawful room s (step (asking e pattern) r) → numbered s.entries e ≡ Some x → PatternOf x.1 pattern → length s.questions < 64 →
+question_wants : (room : ℕ) (s : Standing) (e : ℕ) (pattern : List ℕ) (x : Entered) (r : Reply) → Lawful room s (step (asking e pattern) r) → slice_get s.entries e ≡ Some x → PatternOf x.1 pattern → length s.questions < 64 →
     (r ≡ Err Nodes) ↔ NoRoom room (s.formulas ++ question_forms (unfolded x.0) pattern)
 question_wants room s e pattern x r l there fits few = (
   (λ d.

@@ -1,5 +1,5 @@
 -- What it is for a book to have come from a history.
-use Rattle.std.specs.Prelude.{◌≡◌, ℕ, ◌≤◌, min, List, [], length, get_or, take, Some, Ok, slice_index_or}
+use Rattle.std.specs.Prelude.{◌≡◌, ℕ, ◌≤◌, min, List, [], length, get_or, take, Some, Ok, slice_index_or, slice_get}
 use Rattle.std.specs.Borrow.{MutBor}
 use Rattle.compiling.specs.declared.programs.Model.{Model}
 use Rattle.compiling.specs.Terms.{Stands as StandsFor, Decides, AllWithin}
@@ -13,7 +13,7 @@ use Rattle.semantics.specs.Formulas.{formed, evidence_of, question}
 use Rattle.semantics.specs.Running.{rows}
 use Rattle.line_book.specs.declared.Entry.{Entry}
 use Rattle.line_book.specs.declared.Question.{Question}
-use Rattle.line_book.specs.Standing.{Entered, Posed, Standing, nothing, numbered}
+use Rattle.line_book.specs.Standing.{Entered, Posed, Standing, nothing}
 use Rattle.line_book.specs.Histories.{History, standing, AllLawful}
 
 -- what a book holds, but for its memo: its nodes, and the entries and questions that stand
@@ -76,9 +76,9 @@ pub record QuestionOf (ns : List Node) (q : Question) (x : Posed) : Type 0 where
 pub record Stands (s : Standing) (v : View) : Type 0 where
   pub taken_are : length v.entries ≡ length s.entries
   pub asked_are : length v.questions ≡ length s.questions
-  pub entries_are : (k : ℕ) (x : Entered) → numbered s.entries k ≡ Some x → EntryOf (kept v) (model_at v k) x
-  pub questions_are : (k : ℕ) (x : Posed) → numbered s.questions k ≡ Some x → QuestionOf (kept v) (question_at v k) x
-  pub asked_of : (k : ℕ) (x : Posed) → numbered s.questions k ≡ Some x → numbered s.entries x.entry ≡ Some x.entered
+  pub entries_are : (k : ℕ) (x : Entered) → slice_get s.entries k ≡ Some x → EntryOf (kept v) (model_at v k) x
+  pub questions_are : (k : ℕ) (x : Posed) → slice_get s.questions k ≡ Some x → QuestionOf (kept v) (question_at v k) x
+  pub asked_of : (k : ℕ) (x : Posed) → slice_get s.questions k ≡ Some x → slice_get s.entries x.entry ≡ Some x.entered
   pub held : HoldsAll (kept v) (Among s.formulas)
   pub needed : AllNeeded (Among s.formulas) (kept v)
   pub below : (f : Formula) → Among s.formulas f → Below 128 f

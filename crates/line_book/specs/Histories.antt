@@ -1,5 +1,5 @@
 -- The calls that can change a book with their answers, and the rules that name each answer.
-use Rattle.std.specs.Prelude.{◌≡◌, ℕ, ◌<◌, ◌≤◌, ◌↔◌, List, [], ◌∷◌, ◌++◌, length, Some, None, Ok, Err, Option, Result, slice_index}
+use Rattle.std.specs.Prelude.{◌≡◌, ℕ, ◌<◌, ◌≤◌, ◌↔◌, List, [], ◌∷◌, ◌++◌, length, Some, None, Ok, Err, Option, Result, slice_index, slice_get}
 use Rattle.language.specs.declared.fault.UnfoldFault.{UnfoldFault}
 use Rattle.language.specs.Accepting.{Accepted}
 use Rattle.language.specs.Syntax.{Ty, Program, leaves}
@@ -10,7 +10,7 @@ use Rattle.line_book.specs.declared.fault.BookFault.TheVariants.{Unfolding, Entr
 use Rattle.line_book.specs.declared.Taken.{Taken as TakenFigures}
 use Rattle.line_book.specs.declared.Answer.{Answer}
 use Rattle.line_book.specs.declared.Answer.TheVariants.{Taken, Asked, Cleared}
-use Rattle.line_book.specs.Standing.{Entered, Standing, nothing, with_entry, with_question, numbered}
+use Rattle.line_book.specs.Standing.{Entered, Standing, nothing, with_entry, with_question}
 use Rattle.line_book.specs.Rooms.{Room, NoRoom}
 
 -- a call that can change a book
@@ -57,7 +57,7 @@ after_question s e pattern None a = s
 
 abbrev pub after : Standing → Step → Standing
 after s (step (taking bytes) a) = after_take s (accepted_of bytes) a
-after s (step (asking e pattern) a) = after_question s e pattern (numbered s.entries e) a
+after s (step (asking e pattern) a) = after_question s e pattern (slice_get s.entries e) a
 after s (step clearing a) = nothing
 
 -- what stands after a history
@@ -95,16 +95,16 @@ abbrev pub QuestionRefused : (room : ℕ) → Standing → (entry : ℕ) (patter
 QuestionRefused room s e pattern (Unfolding fault) = ⊥
 QuestionRefused room s e pattern Entries = ⊥
 QuestionRefused room s e pattern Nodes =
-    (x : Entered) × (numbered s.entries e ≡ Some x) × PatternOf x.1 pattern × (length s.questions < 64)
+    (x : Entered) × (slice_get s.entries e ≡ Some x) × PatternOf x.1 pattern × (length s.questions < 64)
     × NoRoom room (s.formulas ++ question_forms (unfolded x.0) pattern)
-QuestionRefused room s e pattern NoEntry = numbered s.entries e ≡ None
-QuestionRefused room s e pattern Pattern = (x : Entered) × (numbered s.entries e ≡ Some x) × (PatternOf x.1 pattern → ⊥)
-QuestionRefused room s e pattern Questions = (x : Entered) × (numbered s.entries e ≡ Some x) × PatternOf x.1 pattern × (64 ≤ length s.questions)
+QuestionRefused room s e pattern NoEntry = slice_get s.entries e ≡ None
+QuestionRefused room s e pattern Pattern = (x : Entered) × (slice_get s.entries e ≡ Some x) × (PatternOf x.1 pattern → ⊥)
+QuestionRefused room s e pattern Questions = (x : Entered) × (slice_get s.entries e ≡ Some x) × PatternOf x.1 pattern × (64 ≤ length s.questions)
 
 -- The number of an accepted question: the entry is there, the pattern is one of its leaves, there are fewer than 64 questions, and there is room.
 abbrev pub QuestionAccepted : (room : ℕ) → Standing → (entry : ℕ) (pattern : List ℕ) → ℕ → Type 0
 QuestionAccepted room s e pattern k =
-    (x : Entered) × (numbered s.entries e ≡ Some x) × PatternOf x.1 pattern × (length s.questions < 64)
+    (x : Entered) × (slice_get s.entries e ≡ Some x) × PatternOf x.1 pattern × (length s.questions < 64)
     × Room room (s.formulas ++ question_forms (unfolded x.0) pattern) × (k ≡ length s.questions)
 
 abbrev pub QuestionAnswers : (room : ℕ) → Standing → (entry : ℕ) (pattern : List ℕ) → Reply → Type 0
@@ -136,5 +136,5 @@ pub record RulesDecide : Type 0 where
   pub one_history : (room : ℕ) (s : Standing) (h g : History) → acts h ≡ acts g → AllLawful room s h → AllLawful room s g → h ≡ g
   pub take_wants : (room : ℕ) (s : Standing) (bytes : List ℕ) (p : Program) (τ : Ty) (r : Reply) → Lawful room s (step (taking bytes) r) → Accepted bytes p τ → length s.entries < 8 →
       (r ≡ Err Nodes) ↔ NoRoom room (s.formulas ++ formed_by (unfolded p))
-  pub question_wants : (room : ℕ) (s : Standing) (e : ℕ) (pattern : List ℕ) (x : Entered) (r : Reply) → Lawful room s (step (asking e pattern) r) → numbered s.entries e ≡ Some x → PatternOf x.1 pattern → length s.questions < 64 →
+  pub question_wants : (room : ℕ) (s : Standing) (e : ℕ) (pattern : List ℕ) (x : Entered) (r : Reply) → Lawful room s (step (asking e pattern) r) → slice_get s.entries e ≡ Some x → PatternOf x.1 pattern → length s.questions < 64 →
       (r ≡ Err Nodes) ↔ NoRoom room (s.formulas ++ question_forms (unfolded x.0) pattern)
