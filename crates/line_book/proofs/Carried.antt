@@ -5,10 +5,6 @@ use denote.Struct.Props.{props}
 use Rattle.bounded.specs.declared.Bounded.{Bounded}
 use Rattle.bounded.specs.Listed.{listed}
 use Rattle.diagram.specs.declared.Table.{Table}
-use Rattle.diagram.specs.declared.Node.{Node}
-use Rattle.diagram.specs.Build.{in_use, Valid, BlankFrom, MemoSound}
-use Rattle.diagram.specs.Decisions.{at, blank_node, Ordered, Reduced, Unique}
-use Rattle.line_book.specs.declared.Book.{Book}
 use Rattle.line_book.specs.declared.Entry.{Entry}
 use Rattle.line_book.specs.declared.Question.{Question}
 use Rattle.line_book.specs.Came.{view, Came}
