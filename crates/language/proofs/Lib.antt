@@ -8,7 +8,6 @@ pub mod ReadingFunctions
 pub mod ReadingPrograms
 pub mod Derivations
 pub mod CheckSteps
-pub mod Copies
 pub mod Heads
 pub mod CheckExprs
 pub mod Lies

@@ -1,11 +1,10 @@
 -- Where the bodies and the main expression lie in a program's bytes.
 use Rattle.std.proofs.Common.{◌≡◌, ℕ, ◌-◌, ◌<◌, ◌≤◌, List, [], ◌∷◌, ◌++◌, length, get_or, take, drop, sym, refl, ap, ◌∙◌, subst, append_assoc, append-nil, arith, length-append}
-use native.Mathlib.Nat.{sub-zero}
 use Rattle.std.proofs.lemmas.List.{drop_at, get_or-take, length-take-le}
 use Rattle.language.specs.declared.reading.FunctionOutline.{FunctionOutline}
 use Rattle.language.specs.declared.reading.Outline.{Outline}
 use Rattle.language.specs.Grammar.{Encodes}
-use Rattle.language.specs.Outlines.{Coded, Outlined, AllOutlined, Callable, Outlines, no_function}
+use Rattle.language.specs.Outlines.{Outlined, AllOutlined, Callable, Outlines}
 use Rattle.language.specs.Syntax.{Expr, Function, Program, encode, encode_ty, encode_expr, encode_function, encode_functions, place_after, body_place, Proper, Readable, AllReadable}
 use Rattle.language.proofs.ReadingFunctions.{encode_functions_append}
 
@@ -44,58 +43,41 @@ readable_at (g ∷ before) f following h = readable_at before f following h.1
 -- the first functions of a program, as those that may be called
 pub callable_front : (os : List FunctionOutline) (fs front following : List Function) → AllOutlined os fs → fs ≡ front ++ following → length front ≤ length os → Callable (take (length front) os) front
 callable_front os fs front following all e h = (
-  (λ before g later c.
+  (λ before g later none c.
       let n : length before < length front = omega (arith, ap length c, length-append before (g ∷ later)) in
       let whole : fs ≡ before ++ (g ∷ (later ++ following)) = e ∙ ap (λ (x : List Function). x ++ following) c ∙ append_assoc before (g ∷ later) following in
-      subst (λ (o : FunctionOutline). Outlined (place_after before) o g) (sym (get_or-take (length front) os (length before) no_function n)) (all before g (later ++ following) whole)),
+      subst (λ (o : FunctionOutline). Outlined (place_after before) o g) (sym (get_or-take (length front) os (length before) none n)) (all before g (later ++ following) none whole)),
   sym (length-take-le (length front) os h),
 )
 
--- what the code has in hand when it goes into the body of a function
-pub record BodyReady (bytes : List ℕ) (o : Outline) (number : ℕ) (part : List ℕ) (before : List Function) (f : Function) : Type 0 where
-  pub callable : Callable (take (number - 0) o.functions) before
-  pub parameter_code : Coded (get_or o.functions number no_function).parameter f.parameter
-  pub result_code : Coded (get_or o.functions number no_function).result f.result
-  pub body_is_at : (get_or o.functions number no_function).body ≡ body_place (place_after before) f
+-- a part of a program in which an expression lies
+pub record PartAt (bytes : List ℕ) (place : ℕ) (part : List ℕ) (e : Expr) : Type 0 where
   pub rest : List ℕ
-  pub part_is : part ≡ encode_expr f.body ++ rest
-  pub place_is : length bytes - length part ≡ body_place (place_after before) f
-  pub proper : Proper f.body
+  pub part_is : part ≡ encode_expr e ++ rest
+  pub place_is : length bytes - length part ≡ place
 
-pub body_ready : (bytes : List ℕ) (o : Outline) (p : Program) (before : List Function) (f : Function) (following : List Function) (number : ℕ) (part : List ℕ) → Encodes bytes p → Outlines o p → p.functions ≡ before ++ (f ∷ following) → number ≡ length before → length o.functions ≡ 16 → part ≡ drop (get_or o.functions number no_function).body bytes → BodyReady bytes o number part before f
-body_ready bytes o p before f following number part enc out cut n sixteen d =
-    let few : length p.functions ≤ 16 = enc.1.count in
-    let short : length before ≤ length o.functions = omega (arith, ap length cut, length-append before (f ∷ following)) in
-    let one = subst (λ (k : ℕ). Outlined (place_after before) (get_or o.functions k no_function) f) (sym n) (out.functions_are before f following cut) in
-    let l = body_lies p before f following cut in
-    let at : part ≡ drop (body_place (place_after before) f) (encode p) = d ∙ ap (λ (k : ℕ). drop k bytes) one.body_is_at ∙ ap (drop (body_place (place_after before) f)) enc.0 in
+part_at : {bytes bytes' part : List ℕ} {place place' : ℕ} {e : Expr} → Lies bytes' place' e → bytes ≡ bytes' → place ≡ place' → part ≡ drop place bytes → PartAt bytes place' part e
+part_at {bytes} {bytes'} {part} {place} {place'} l b n d =
+    let at : part ≡ drop place' bytes' = d ∙ ap (λ (k : ℕ). drop k bytes) n ∙ ap (drop place') b in
     record {
-      callable = subst (λ (k : ℕ). Callable (take k o.functions) before) (sym n ∙ sym (sub-zero number)) (callable_front o.functions p.functions before (f ∷ following) out.functions_are cut short);
-      parameter_code = one.parameter_code;
-      result_code = one.result_code;
-      body_is_at = one.body_is_at;
       rest = l.rest;
       part_is = at ∙ l.part_is;
-      place_is = ap (λ (x : List ℕ). length x - length part) enc.0 ∙ ap (λ (x : List ℕ). length (encode p) - length x) at ∙ l.place_is;
-      proper = (readable_at before f following (subst AllReadable cut enc.1.functions_readable)).body_proper;
+      place_is = ap (λ (x : List ℕ). length x - length part) b ∙ ap (λ (x : List ℕ). length bytes' - length x) at ∙ l.place_is;
     }
 
--- and into the main expression
-pub record MainReady (bytes : List ℕ) (o : Outline) (part : List ℕ) (p : Program) : Type 0 where
-  pub callable : Callable (take (o.count - 0) o.functions) p.functions
-  pub rest : List ℕ
-  pub part_is : part ≡ encode_expr p.main ++ rest
-  pub place_is : length bytes - length part ≡ place_after p.functions
+-- what the code has in hand when it goes into the body of the function at a number
+pub body_given : (os : List FunctionOutline) (fs before : List Function) (f : Function) (following : List Function) (number : ℕ) (o : FunctionOutline) → Callable os fs → fs ≡ before ++ (f ∷ following) → length before ≡ number → o ≡ get_or os number o → Callable (take number os) before × Outlined (place_after before) o f
+body_given os fs before f following number o (all, n) cut l is = (
+  subst (λ (k : ℕ). Callable (take k os) before) l (callable_front os fs before (f ∷ following) all cut (omega (arith, n, ap length cut, length-append before (f ∷ following)))),
+  subst (λ (x : FunctionOutline). Outlined (place_after before) x f) (sym (is ∙ ap (λ (k : ℕ). get_or os k o) (sym l))) (all before f following o cut),
+)
 
-pub main_ready : (bytes : List ℕ) (o : Outline) (p : Program) (part : List ℕ) → Encodes bytes p → Outlines o p → length o.functions ≡ 16 → part ≡ drop o.main bytes → MainReady bytes o part p
-main_ready bytes o p part enc out sixteen d =
-    let few : length p.functions ≤ 16 = enc.1.count in
-    let short : length p.functions ≤ length o.functions = omega arith in
-    let l = main_lies p in
-    let at : part ≡ drop (place_after p.functions) (encode p) = d ∙ ap (λ (k : ℕ). drop k bytes) out.main_is ∙ ap (drop (place_after p.functions)) enc.0 in
-    record {
-      callable = subst (λ (k : ℕ). Callable (take k o.functions) p.functions) (sym out.count_is ∙ sym (sub-zero o.count)) (callable_front o.functions p.functions p.functions [] out.functions_are (sym (append-nil p.functions)) short);
-      rest = l.rest;
-      part_is = at ∙ l.part_is;
-      place_is = ap (λ (x : List ℕ). length x - length part) enc.0 ∙ ap (λ (x : List ℕ). length (encode p) - length x) at ∙ l.place_is;
-    }
+-- the body of a function, and the main expression
+pub body_ready : (bytes : List ℕ) (p : Program) (before : List Function) (f : Function) (following : List Function) (o : FunctionOutline) (part : List ℕ) → Encodes bytes p → p.functions ≡ before ++ (f ∷ following) → Outlined (place_after before) o f → part ≡ drop o.body bytes → PartAt bytes (body_place (place_after before) f) part f.body × Proper f.body
+body_ready bytes p before f following o part enc cut one d = (
+  part_at (body_lies p before f following cut) enc.0 one.body_is_at d,
+  (readable_at before f following (subst AllReadable cut enc.1.functions_readable)).body_proper,
+)
+
+pub main_ready : (bytes : List ℕ) (o : Outline) (p : Program) (part : List ℕ) → Encodes bytes p → Outlines o p → part ≡ drop o.main bytes → PartAt bytes (place_after p.functions) part p.main
+main_ready bytes o p part enc out d = part_at (main_lies p) enc.0 out.main_is d

@@ -1,10 +1,11 @@
 -- Reading functions one after the other.
-use Rattle.std.proofs.Common.{◌≡◌, ℕ, suc, ◌<◌, ◌≢◌, ◌⊎◌, List, [], ◌∷◌, ◌++◌, length, get_or, set, Ok, Err, sym, refl, ap, ◌∙◌, subst, inl, inr, append_assoc, append-nil, arith, length-append}
-use Rattle.std.proofs.lemmas.List.{get_or-set_same, get_or-set_other}
+use Rattle.std.proofs.Common.{◌≡◌, ℕ, suc, ◌<◌, ◌⊎◌, List, [], ◌∷◌, ◌++◌, length, get_or, Ok, Err, sym, refl, ap, ◌∙◌, subst, inl, inr, append_assoc, append-nil, arith, length-append}
+use Rattle.std.proofs.Math.ListN.{get_or-append}
+use Rattle.std.proofs.lemmas.List.{get_or_push, length_push}
 use Rattle.language.specs.declared.fault.ReadFault.{ReadFault}
 use Rattle.language.specs.declared.reading.FunctionOutline.{FunctionOutline}
 use Rattle.language.specs.Outcomes.{and_then}
-use Rattle.language.specs.Outlines.{Outlined, AllOutlined, no_function}
+use Rattle.language.specs.Outlines.{Outlined, Callable}
 use Rattle.language.specs.Syntax.{Function, encode_function, encode_functions, place_after}
 use Rattle.language.specs.Reading.{Read, function_from, functions_from}
 use Rattle.language.proofs.Results.{then_at, then_err}
@@ -60,18 +61,21 @@ cut_last (x ∷ fs) f (b ∷ before) g following e =
     ]
 
 -- one function more
-pub outlined_more : (os : List FunctionOutline) (fs : List Function) (o : FunctionOutline) (f : Function) → AllOutlined os fs → Outlined (place_after fs) o f → length fs < length os → AllOutlined (set os (length fs) o) (fs ++ (f ∷ []))
-outlined_more os fs o f all one h before g following e =
-    elim (cut_last fs f before g following e) [
-      | inl p ↦
-          let at : get_or (set os (length fs) o) (length before) no_function ≡ o = rw p.0 (get_or-set_same os (length fs) o no_function h) in
-          subst (λ (b : List Function). Outlined (place_after b) (get_or (set os (length fs) o) (length before) no_function) g) (sym p.0)
-          (subst (λ (x : FunctionOutline). Outlined (place_after fs) x g) (sym at) (subst (λ (x : Function). Outlined (place_after fs) o x) (sym p.1) one))
-      | inr p ↦
-          let n : length before ≢ length fs = λ k. omega (arith, ap length p.1, length-append before (g ∷ p.0)) in
-          subst (λ (x : FunctionOutline). Outlined (place_after before) x g) (sym (get_or-set_other os (length fs) (length before) o no_function n)) (all before g p.0 p.1)
-    ]
+pub outlined_more : (os : List FunctionOutline) (fs : List Function) (o : FunctionOutline) (f : Function) → Callable os fs → Outlined (place_after fs) o f → Callable (os ++ (o ∷ [])) (fs ++ (f ∷ []))
+outlined_more os fs o f (all, n) one = (
+  λ before g following none e.
+      elim (cut_last fs f before g following e) [
+        | inl p ↦
+            let at : get_or (os ++ (o ∷ [])) (length before) none ≡ o = get_or_push os o none (length before) (sym n ∙ ap length (sym p.0)) in
+            subst (λ (b : List Function). Outlined (place_after b) (get_or (os ++ (o ∷ [])) (length before) none) g) (sym p.0)
+            (subst (λ (x : FunctionOutline). Outlined (place_after fs) x g) (sym at) (subst (λ (x : Function). Outlined (place_after fs) o x) (sym p.1) one))
+        | inr p ↦
+            let k : length before < length os = omega (arith, n, ap length p.1, length-append before (g ∷ p.0)) in
+            subst (λ (x : FunctionOutline). Outlined (place_after before) x g) (sym (get_or-append os (o ∷ []) none (length before) k)) (all before g p.0 none p.1)
+      ],
+  omega (arith, n, length_push os o, length_push fs f),
+)
 
--- an empty list is cut nowhere
-pub no_cut : {A : Type 0} (before : List A) (g : A) (following : List A) → [] ≡ before ++ (g ∷ following) → ⊥
-no_cut before g following e = omega (arith, ap length e, length-append before (g ∷ following))
+-- none of no functions
+pub no_functions_outlined : {os : List FunctionOutline} → os ≡ [] → Callable os []
+no_functions_outlined e = (λ before g following none h. absurd (omega (arith, ap length h, length-append before (g ∷ following))), sym (ap length e))

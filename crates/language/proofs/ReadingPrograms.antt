@@ -1,5 +1,5 @@
 -- Reading a whole program.
-use Rattle.std.proofs.Common.{◌≡◌, ℕ, suc, ◌-◌, ◌<◌, ◌≤◌, Bool, true, false, cond, leb, ◌↔◌, List, [], ◌∷◌, ◌++◌, length, get_or, is_ok, IsErrAnd, IfOk, Ok, Err, Result, sym, refl, ap, ◌∙◌, subst, append-nil, not-suc-le-zero, arith, le-leb, leb-true}
+use Rattle.std.proofs.Common.{◌≡◌, ℕ, suc, ◌-◌, ◌<◌, ◌≤◌, Bool, true, false, cond, leb, ◌↔◌, List, [], ◌∷◌, ◌++◌, length, get_or, is_ok, IsErrAnd, Ok, Err, Result, sym, refl, ap, ◌∙◌, subst, append-nil, not-suc-le-zero, arith, le-leb, leb-true}
 use Rattle.std.proofs.lemmas.Bool.{false≢true}
 use Rattle.std.proofs.lemmas.List.{take_rest}
 use Rattle.language.specs.declared.fault.ReadFault.{ReadFault}
@@ -97,8 +97,8 @@ by_grammar bytes r h = record {
 
 -- both clauses of reading
 abbrev pub ReadsWell : (bytes : List ℕ) → Result Outline ReadFault → Type 0
-ReadsWell bytes r = record { exact : Reads r (tree_of bytes); grammar : ByGrammar bytes r; few : IfOk r (λ o. o.count ≤ 16) }
+ReadsWell bytes r = record { exact : Reads r (tree_of bytes); grammar : ByGrammar bytes r }
 
 pub reads_well : (bytes : List ℕ) (r : Result Outline ReadFault) → Reads r (tree_of bytes) → ReadsWell bytes r
-reads_well bytes (Ok o) h = record { exact = h; grammar = by_grammar bytes (Ok o) (λ _. (h.0, h.1), λ _. refl); few = omega (arith, h.2.count_is, (tree_sound bytes h.0 h.1).1.count) }
-reads_well bytes (Err fault) h = record { exact = h; grammar = by_grammar bytes (Err fault) (λ e. absurd (false≢true e), λ x. absurd (clash h x.1)); few = tt }
+reads_well bytes (Ok o) h = record { exact = h; grammar = by_grammar bytes (Ok o) (λ _. (h.0, h.1), λ _. refl) }
+reads_well bytes (Err fault) h = record { exact = h; grammar = by_grammar bytes (Err fault) (λ e. absurd (false≢true e), λ x. absurd (clash h x.1)) }

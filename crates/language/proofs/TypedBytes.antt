@@ -62,11 +62,11 @@ by_rules bytes r h = record {
 
 -- both clauses of typing
 abbrev pub TypesWell : (bytes : List ℕ) → Result TypedOutline TypeFault → Type 0
-TypesWell bytes r = record { exact : OutlinesTyped r (typed_of bytes); derived : ByRules bytes r; within : IfOk r (λ o. (length bytes ≤ 4096) × (o.outline.count ≤ 16)) }
+TypesWell bytes r = record { exact : OutlinesTyped r (typed_of bytes); derived : ByRules bytes r; within : IfOk r (λ _. length bytes ≤ 4096) }
 
 pub types_well : (bytes : List ℕ) (r : Result TypedOutline TypeFault) → OutlinesTyped r (typed_of bytes) → TypesWell bytes r
 types_well bytes (Ok o) h = record { exact = h; derived = by_rules bytes (Ok o) (λ _. (h.0, h.1), λ _. refl); within = few }
   where
-    few : (length bytes ≤ 4096) × (o.outline.count ≤ 16)
-    few = let e = (typed_sound bytes h.0 h.1).0 in (omega (arith, ap length e.0, e.1.bytes), omega (arith, h.2.outline_is.count_is, e.1.count))
+    few : length bytes ≤ 4096
+    few = let e = (typed_sound bytes h.0 h.1).0 in omega (arith, ap length e.0, e.1.bytes)
 types_well bytes (Err fault) h = record { exact = h; derived = by_rules bytes (Err fault) (λ e. absurd (false≢true e), λ x. absurd (clash h x.1)); within = tt }

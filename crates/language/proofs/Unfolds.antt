@@ -8,18 +8,20 @@ use Rattle.language.specs.declared.command.Command.{Command}
 use Rattle.language.specs.declared.command.Command.TheVariants as commands
 use Rattle.language.specs.declared.fault.UnfoldFault.{UnfoldFault}
 use Rattle.language.specs.declared.fault.UnfoldFault.TheVariants.{Size}
+use Rattle.bounded.specs.Listed.{listed}
+use Rattle.language.specs.declared.reading.FunctionOutline.{FunctionOutline}
 use Rattle.language.specs.declared.reading.Outline.{Outline}
 use Rattle.language.specs.declared.unfolding.Figures.{Figures}
 use Rattle.language.specs.Accepting.{Measures}
 use Rattle.language.specs.Grammar.{Encodes}
-use Rattle.language.specs.Outlines.{Outlines, no_function}
+use Rattle.language.specs.Outlines.{Outlines}
 use Rattle.language.specs.Syntax.{Ty, Expr, plain, branch, bind, encode_expr, Function, Program, Proper}
 use Rattle.language.specs.Reading.{command_from}
 use Rattle.language.specs.Typing.{At, here, later, Typed, is_atom, is_pair, is_first, is_second, is_flip, is_observe, is_call, is_if, is_let, Bodies, no_more, body, WellTyped, check}
 use Rattle.language.specs.Unfolding.{Tree, atom, pair, first, second, flip, observe, call, choice, binding, size, flips, body_at, found_type, unfold_simple, unfold_expr, unfold_body, unfold_bodies, bodies_of, CallsBelow, WellCalled}
 use Rattle.language.proofs.CheckSteps.{cut_at}
 use Rattle.language.proofs.Heads.{PartsAt, if_at, let_at}
-use Rattle.language.proofs.Lies.{body_ready}
+use Rattle.language.proofs.Lies.{body_given, body_ready}
 
 -- Figures of one step.
 
@@ -185,20 +187,21 @@ pub record CallReady (p : Program) (Φ : List Function) (number : ℕ) (part : L
   pub calls : CallsBelow number function.body
   pub tree : body_at (bodies_of Φ) number ≡ unfold_expr before (bodies_of before) (function.parameter ∷ []) function.body
 
-pub call_ready : (bytes : List ℕ) (o : Outline) (p : Program) (Φ following : List Function) (number : ℕ) (part : List ℕ) → Encodes bytes p → Outlines o p → WellCalled p → p.functions ≡ Φ ++ following → number < length Φ → length o.functions ≡ 16 → part ≡ drop (get_or o.functions number no_function).body bytes → CallReady p Φ number part
-call_ready bytes o p Φ following number part enc out well e h sixteen d =
+pub call_ready : (bytes : List ℕ) (o : Outline) (p : Program) (Φ following : List Function) (number : ℕ) (function : FunctionOutline) (part : List ℕ) → Encodes bytes p → Outlines o p → WellCalled p → p.functions ≡ Φ ++ following → number < length Φ → function ≡ get_or (listed o.functions) number function → part ≡ drop function.body bytes → CallReady p Φ number part
+call_ready bytes o p Φ following number function part enc out well e h is d =
     let c = cut_at Φ number h in
     let whole : p.functions ≡ c.0 ++ (c.1 ∷ (c.2 ++ following)) = e ∙ ap (λ (x : List Function). x ++ following) c.3 ∙ append_assoc c.0 (c.1 ∷ c.2) following in
-    let r = body_ready bytes o p c.0 c.1 (c.2 ++ following) number part enc out whole (sym c.4) sixteen d in
+    let one = body_given (listed o.functions) p.functions c.0 c.1 (c.2 ++ following) number function out.functions_are whole c.4 is in
+    let r = body_ready bytes p c.0 c.1 (c.2 ++ following) function part enc whole one.1 d in
     record {
       before = c.0;
       function = c.1;
       later = c.1 ∷ (c.2 ++ following);
       cut = whole;
       count = c.4;
-      rest = r.rest;
-      part_is = r.part_is;
-      proper = r.proper;
+      rest = r.0.rest;
+      part_is = r.0.part_is;
+      proper = r.1;
       calls = subst (λ (k : ℕ). CallsBelow k c.1.body) c.4 (well c.0 c.1 (c.2 ++ following) whole);
       tree = ap (body_at (bodies_of Φ)) (sym c.4) ∙ body_of Φ c.0 c.1 c.2 c.3;
     }

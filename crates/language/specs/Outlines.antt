@@ -1,6 +1,8 @@
 -- What the code keeps of a program's types and functions.
-use Rattle.std.specs.Prelude.{◌≡◌, ℕ, ◌+◌, ◌<◌, ◌≤◌, List, [], ◌∷◌, ◌++◌, length, take, replicate, Some, None, Ok, Err, Option, Result, slice_index_or}
+use Rattle.std.specs.Prelude.{◌≡◌, ℕ, ◌+◌, ◌<◌, ◌≤◌, List, [], ◌∷◌, ◌++◌, length, Some, None, Ok, Err, Option, Result, slice_index_or}
 use Rattle.std.specs.Borrow.{Bor}
+use Rattle.bounded.specs.declared.Bounded.{Bounded}
+use Rattle.bounded.specs.Listed.{listed}
 use Rattle.language.specs.declared.fault.ReadFault.{ReadFault}
 use Rattle.language.specs.declared.types.TypeCode.{TypeCode}
 use Rattle.language.specs.declared.reading.FunctionOutline.{FunctionOutline}
@@ -9,15 +11,11 @@ use Rattle.language.specs.Syntax.{Ty, bool, product, leaves, encode_ty, Function
 
 -- the bytes of a type that the code holds
 abbrev pub type_bytes : TypeCode → List ℕ
-type_bytes t = take t.len t.bytes
+type_bytes t = listed t.bytes
 
 -- the code holds this type
 abbrev pub Coded : TypeCode → Ty → Type 0
 Coded t τ = type_bytes t ≡ encode_ty τ
-
--- Bool
-abbrev pub bool_code : TypeCode
-bool_code = record { len = 1; bytes = replicate 31 0 }
 
 -- the number is that of the type's leaves
 abbrev pub Counted : ℕ → Ty → Type 0
@@ -41,27 +39,23 @@ pub record Outlined (place : ℕ) (o : FunctionOutline) (f : Function) : Type 0 
   pub result_code : Coded o.result f.result
   pub body_is_at : o.body ≡ body_place place f
 
--- an element that is not there
-abbrev pub no_type : TypeCode
-no_type = record { len = 0; bytes = [] }
-
-abbrev pub no_function : FunctionOutline
-no_function = record { parameter = no_type; result = no_type; body = 0 }
-
--- what it keeps of functions, the first of which begins at byte 1: each at its number
+-- what it keeps of functions, the first of which begins at byte 1: each at its number, whatever stands for one that is not there
 abbrev pub AllOutlined : List FunctionOutline → List Function → Type 0
 AllOutlined os fs =
-    (before : List Function) (f : Function) (following : List Function) → fs ≡ before ++ (f ∷ following) →
-    Outlined (place_after before) (slice_index_or os (length before) no_function) f
+    (before : List Function) (f : Function) (following : List Function) (none : FunctionOutline) → fs ≡ before ++ (f ∷ following) →
+    Outlined (place_after before) (slice_index_or os (length before) none) f
 
 -- just the functions that may be called
 abbrev pub Callable : List FunctionOutline → List Function → Type 0
 Callable os Φ = AllOutlined os Φ × (length Φ ≡ length os)
 
+-- and these in a list of its own
+abbrev pub Functions : Bounded FunctionOutline 16 → List Function → Type 0
+Functions os fs = Callable (listed os) fs
+
 -- and of a program
 pub record Outlines (o : Outline) (p : Program) : Type 0 where
-  pub count_is : o.count ≡ length p.functions
-  pub functions_are : AllOutlined o.functions p.functions
+  pub functions_are : Functions o.functions p.functions
   pub main_is : o.main ≡ place_after p.functions
 
 -- reading answers with an outline of the tree, or with its fault

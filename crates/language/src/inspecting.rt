@@ -22,7 +22,7 @@ pub fn inspect(program: &[u8]) -> Result<Inspection, UnfoldFault>
 {
     let unfolded = unfold_main(program)?;
     Ok(Inspection {
-        functions: unfolded.typed.outline.count,
+        functions: unfolded.typed.outline.functions.len(),
         size: unfolded.figures.size,
         flips: unfolded.figures.flips,
         leaves: unfolded.typed.value.leaves(),

@@ -7,7 +7,6 @@ pub mod command;
 pub mod fault;
 pub mod inspecting;
 pub mod reading;
-pub mod slices;
 pub mod types;
 pub mod typing;
 pub mod unfolding;

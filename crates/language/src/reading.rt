@@ -1,13 +1,15 @@
 // Reading: a program's bytes from left to right, to the first fault or to an outline.
-ghost use Rattle.std.specs.Prelude.{◌≡◌, ◌+◌, ◌-◌, ◌<◌, ◌≤◌, length, IfOk};
+ghost use Rattle.std.specs.Prelude.{◌≡◌, ◌+◌, ◌-◌, ◌<◌, ◌≤◌, [], length, IfOk};
+ghost use Rattle.bounded.specs.Listed.{listed};
 ghost use Rattle.language.specs.Grammar.{ByGrammar};
 ghost use Rattle.language.specs.Outcomes.{Follows};
-ghost use Rattle.language.specs.Outlines.{Coded, Outlined, AllOutlined, Reads, Passes};
+ghost use Rattle.language.specs.Outlines.{Coded, Outlined, Functions, Reads, Passes};
 ghost use Rattle.language.specs.Reading.{narrow_from, expr_from, function_from, functions_from, tree_of};
 
 use crate::command::{Command, next_command};
 use crate::fault::ReadFault;
 use crate::types::{MOST_LEAVES, TypeCode, read_leaves};
+use bounded::Bounded;
 
 // The most bytes of a program, and the most functions.
 pub const MOST_BYTES: usize = 4096;
@@ -22,19 +24,10 @@ pub struct FunctionOutline {
     pub body: usize,
 }
 
-impl FunctionOutline {
-    const NONE: FunctionOutline = FunctionOutline {
-        parameter: TypeCode::BOOL,
-        result: TypeCode::BOOL,
-        body: 0,
-    };
-}
-
-// A program that was read: its functions, of which the first `count` are there, and the place of the main expression.
+// A program that was read: its functions, and the place of the main expression.
 #[derive(Clone, Copy)]
 pub struct Outline {
-    pub count: usize,
-    pub functions: [FunctionOutline; 16],
+    pub functions: Bounded<FunctionOutline, MOST_FUNCTIONS>,
     pub main: usize,
 }
 
@@ -86,22 +79,33 @@ fn read_function(bytes: &[u8], whole: usize) -> Result<(FunctionOutline, &[u8]),
     Ok((function, rest))
 }
 
+// No function yet.
+fn no_functions() -> Bounded<FunctionOutline, MOST_FUNCTIONS>
+    ensures { listed result ≡ [] }
+{
+    Bounded::new(FunctionOutline {
+        parameter: TypeCode::bool(),
+        result: TypeCode::bool(),
+        body: 0,
+    })
+}
+
 // The `count` functions that stand at the front of `bytes`, all but the first one of a program's bytes, and the bytes after them.
 fn read_functions(
     bytes: &[u8],
     whole: usize,
     count: usize,
-) -> Result<([FunctionOutline; 16], &[u8]), ReadFault>
+) -> Result<(Bounded<FunctionOutline, MOST_FUNCTIONS>, &[u8]), ReadFault>
     requires whole { length bytes.now + 1 ≡ whole }
     requires count { count ≤ 16 }
-    ensures gives { Follows AllOutlined result (functions_from whole count bytes.now) }
+    ensures gives { Follows Functions result (functions_from whole count bytes.now) }
     ensures shorter { IfOk result (λ x. length x.1.now ≤ length bytes.now) }
 {
-    let mut functions = [FunctionOutline::NONE; 16];
+    let mut functions = no_functions();
     let mut rest = bytes;
-    for i in 0..count {
+    for _i in 0..count {
         let (function, following) = read_function(rest, whole)?;
-        functions[i] = function;
+        functions.push(function);
         rest = following;
     }
     Ok((functions, rest))
@@ -111,7 +115,6 @@ fn read_functions(
 pub fn read(program: &[u8]) -> Result<Outline, ReadFault>
     ensures exact { Reads result (tree_of program.now) }
     ensures grammar { ByGrammar program.now result }
-    ensures few { IfOk result (λ o. o.count ≤ 16) }
 {
     if program.len() > MOST_BYTES {
         return Err(ReadFault::TooLong);
@@ -130,9 +133,5 @@ pub fn read(program: &[u8]) -> Result<Outline, ReadFault>
     if !rest.is_empty() {
         return Err(ReadFault::Trailing(whole - rest.len()));
     }
-    Ok(Outline {
-        count,
-        functions,
-        main,
-    })
+    Ok(Outline { functions, main })
 }

@@ -7,22 +7,21 @@ ghost use Rattle.std.specs.Cmp.Lexicographic.{pointwise};
 ghost use Rattle.language.specs.Outcomes.{Follows};
 ghost use Rattle.language.specs.Outlines.{Coded, Counted, PairCoded, PartsCoded, type_bytes};
 ghost use Rattle.language.specs.Reading.{type_from};
-ghost use Rattle.language.specs.Syntax.{Ty};
+ghost use Rattle.language.specs.Syntax.{Ty, bool};
 
 use crate::fault::ReadFault;
-use crate::slices::put;
+use bounded::Bounded;
 
 // The most leaves that a type may have.
 pub const MOST_LEAVES: usize = 16;
 
-// A type of at most 16 leaves, as its bytes in a program: the first `len` of `bytes`. The others are 0.
+// A type of at most 16 leaves, as its bytes in a program.
 #[derive(Clone, Copy)]
 pub struct TypeCode {
-    pub len: usize,
-    pub bytes: [u8; 31],
+    bytes: Bounded<u8, 31>,
 }
 
-// Equal by the bytes in use.
+// Equal by its bytes.
 impl PartialEq for TypeCode {
     ghost eq = { on type_bytes (pointwise ◌==◌) };
 
@@ -34,24 +33,21 @@ impl PartialEq for TypeCode {
 }
 
 impl TypeCode {
-    pub const BOOL: TypeCode = TypeCode {
-        len: 1,
-        bytes: [0; 31],
-    };
+    // Bool.
+    pub fn bool() -> TypeCode
+        ensures { Coded result bool }
+    {
+        TypeCode::of(&[0])
+    }
 
     // The type with these bytes.
     pub(crate) fn of(bytes: &[u8]) -> TypeCode
         requires { length bytes.now ≤ 31 }
         ensures { type_bytes result ≡ bytes.now }
     {
-        let mut code = [0; 31];
-        for (i, byte) in bytes.iter().enumerate() {
-            code[i] = *byte;
-        }
-        TypeCode {
-            len: bytes.len(),
-            bytes: code,
-        }
+        let mut code = Bounded::new(0);
+        code.extend(bytes);
+        TypeCode { bytes: code }
     }
 
     // Its bytes.
@@ -59,8 +55,7 @@ impl TypeCode {
         ensures bytes { result.now ≡ type_bytes self.now }
         ensures short { length result.now ≤ 31 }
     {
-        let end = self.len.min(31);
-        &self.bytes[0..end]
+        self.bytes.as_slice()
     }
 
     // The number of its leaves: a type has one byte for each leaf, and one for each pair.
@@ -76,16 +71,14 @@ impl TypeCode {
         ensures { (σ τ : Ty) → Coded first.now σ → Coded second.now τ → PairCoded result σ τ }
     {
         let (first, second) = (first.as_slice(), second.as_slice());
-        let middle = 1 + first.len();
-        let end = middle + second.len();
-        if end > 31 {
+        if 1 + first.len() + second.len() > 31 {
             return None;
         }
-        let mut bytes = [0; 31];
-        bytes[0] = 1;
-        put(&mut bytes, 1, first);
-        put(&mut bytes, middle, second);
-        Some(TypeCode { len: end, bytes })
+        let mut bytes = Bounded::new(0);
+        bytes.push(1);
+        bytes.extend(first);
+        bytes.extend(second);
+        Some(TypeCode { bytes })
     }
 
     // The two parts of a pair.

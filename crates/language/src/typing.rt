@@ -1,8 +1,9 @@
 // Typing: the type of each expression, to the first fault.
 ghost use Rattle.std.specs.Prelude.{◌≡◌, ℕ, ◌+◌, ◌-◌, ◌<◌, ◌≤◌, List, [], ◌∷◌, ◌++◌, length, drop, IfOk};
+ghost use Rattle.bounded.specs.Listed.{listed};
 ghost use Rattle.language.specs.Grammar.{Encodes};
-ghost use Rattle.language.specs.Outlines.{Coded, AllCoded, Callable, Outlines, Types, TypesPast, PartsTyped};
-ghost use Rattle.language.specs.Syntax.{Ty, Expr, Function, Program, Proper, encode_expr};
+ghost use Rattle.language.specs.Outlines.{Coded, AllCoded, Outlined, Callable, Types, TypesPast, PartsTyped};
+ghost use Rattle.language.specs.Syntax.{Ty, Expr, Function, Program, Proper, encode_expr, place_after};
 ghost use Rattle.language.specs.Typing.{type_of_operand, bool_operand, pair_operand, call_type, checked_simple, check, checked_body, checked_bodies};
 ghost use Rattle.language.specs.TypedPrograms.{OutlinesTyped, ByRules};
 ghost use Rattle.language.specs.Unfolding.{typed_of};
@@ -10,31 +11,41 @@ ghost use Rattle.language.specs.Unfolding.{typed_of};
 use crate::command::{Command, Operand, Simple, next_command};
 use crate::fault::TypeFault;
 use crate::reading::{FunctionOutline, Outline, read};
-use crate::slices::extended;
 use crate::types::TypeCode;
+use bounded::Bounded;
 
 // The most names in scope.
 pub const MOST_NAMES: usize = 32;
 
+// The types of the names in scope, the outermost first.
+type Scope = Bounded<TypeCode, MOST_NAMES>;
+
+// No name in scope.
+fn no_names() -> Scope
+    ensures { listed result ≡ [] }
+{
+    Bounded::new(TypeCode::bool())
+}
+
 // The type of an operand of the command at a place.
-fn operand_type(scope: &[TypeCode], operand: Operand, place: usize) -> Result<TypeCode, TypeFault>
-    ensures { (Γ : List Ty) → AllCoded scope.now Γ → Types result (type_of_operand Γ place operand) }
+fn operand_type(scope: &Scope, operand: Operand, place: usize) -> Result<TypeCode, TypeFault>
+    ensures { (Γ : List Ty) → AllCoded (listed scope.now) Γ → Types result (type_of_operand Γ place operand) }
 {
     match operand {
-        Operand::False | Operand::True => Ok(TypeCode::BOOL),
+        Operand::False | Operand::True => Ok(TypeCode::bool()),
         Operand::Name(name) => {
-            let known = scope.get(name as usize).copied();
+            let known = scope.as_slice().get(name as usize).copied();
             known.ok_or(TypeFault::OutOfScope(place))
         }
     }
 }
 
 // An operand that has to be Bool.
-fn check_bool(scope: &[TypeCode], operand: Operand, place: usize) -> Result<(), TypeFault>
-    ensures { (Γ : List Ty) → AllCoded scope.now Γ → result ≡ bool_operand Γ place operand }
+fn check_bool(scope: &Scope, operand: Operand, place: usize) -> Result<(), TypeFault>
+    ensures { (Γ : List Ty) → AllCoded (listed scope.now) Γ → result ≡ bool_operand Γ place operand }
 {
     let found = operand_type(scope, operand, place)?;
-    if found != TypeCode::BOOL {
+    if found != TypeCode::bool() {
         return Err(TypeFault::Mistyped(place));
     }
     Ok(())
@@ -42,11 +53,11 @@ fn check_bool(scope: &[TypeCode], operand: Operand, place: usize) -> Result<(), 
 
 // The types of the two parts of an operand that has to be a pair.
 fn operand_parts(
-    scope: &[TypeCode],
+    scope: &Scope,
     operand: Operand,
     place: usize,
 ) -> Result<(TypeCode, TypeCode), TypeFault>
-    ensures { (Γ : List Ty) → AllCoded scope.now Γ → PartsTyped result (pair_operand Γ place operand) }
+    ensures { (Γ : List Ty) → AllCoded (listed scope.now) Γ → PartsTyped result (pair_operand Γ place operand) }
 {
     let found = operand_type(scope, operand, place)?;
     found.parts().ok_or(TypeFault::Mistyped(place))
@@ -73,11 +84,11 @@ fn check_call(
 // The type of a command that no expression belongs to.
 fn check_simple(
     functions: &[FunctionOutline],
-    scope: &[TypeCode],
+    scope: &Scope,
     simple: Simple,
     place: usize,
 ) -> Result<TypeCode, TypeFault>
-    ensures { (Φ : List Function) (Γ : List Ty) → Callable functions.now Φ → AllCoded scope.now Γ → Types result (checked_simple Φ Γ place simple) }
+    ensures { (Φ : List Function) (Γ : List Ty) → Callable functions.now Φ → AllCoded (listed scope.now) Γ → Types result (checked_simple Φ Γ place simple) }
 {
     match simple {
         Simple::Atom(a) => operand_type(scope, a, place),
@@ -94,10 +105,10 @@ fn check_simple(
             let (_, second) = operand_parts(scope, a, place)?;
             Ok(second)
         }
-        Simple::Flip(_) => Ok(TypeCode::BOOL),
+        Simple::Flip(_) => Ok(TypeCode::bool()),
         Simple::Observe(a) => {
             check_bool(scope, a, place)?;
-            Ok(TypeCode::BOOL)
+            Ok(TypeCode::bool())
         }
         Simple::Call(number, a) => {
             let operand = operand_type(scope, a, place)?;
@@ -111,10 +122,10 @@ fn check_expression<'a>(
     bytes: &'a [u8],
     whole: usize,
     functions: &[FunctionOutline],
-    scope: &[TypeCode],
+    scope: &Scope,
 ) -> Result<(TypeCode, &'a [u8]), TypeFault>
     requires { length bytes.now ≤ whole }
-    ensures types { (Φ : List Function) (Γ : List Ty) (e : Expr) (end : List ℕ) → Callable functions.now Φ → AllCoded scope.now Γ → bytes.now ≡ encode_expr e ++ end → Proper e → TypesPast end result (check Φ Γ (whole - length bytes.now) e) }
+    ensures types { (Φ : List Function) (Γ : List Ty) (e : Expr) (end : List ℕ) → Callable functions.now Φ → AllCoded (listed scope.now) Γ → bytes.now ≡ encode_expr e ++ end → Proper e → TypesPast end result (check Φ Γ (whole - length bytes.now) e) }
     ensures shorter { IfOk result (λ x. length x.1.now < length bytes.now) }
 {
     let place = whole - bytes.len();
@@ -135,11 +146,12 @@ fn check_expression<'a>(
         }
         Command::Let => {
             let (bound, rest) = check_expression(rest, whole, functions, scope)?;
-            if scope.len() >= MOST_NAMES {
+            if scope.is_full() {
                 return Err(TypeFault::OverLimit(place));
             }
-            let names = extended(scope, bound);
-            check_expression(rest, whole, functions, &names[0..scope.len() + 1])
+            let mut names = *scope;
+            names.push(bound);
+            check_expression(rest, whole, functions, &names)
         }
     }
 }
@@ -151,15 +163,18 @@ pub fn part_from(program: &[u8], place: usize) -> &[u8]
     program.get(place..).unwrap_or(&[])
 }
 
-// Checks the body of the function with a number: it has the type that the function promises.
-fn check_body(program: &[u8], outline: &Outline, number: usize) -> Result<(), TypeFault>
-    requires { number < 16 }
-    ensures { (p : Program) (before : List Function) (f : Function) (following : List Function) → Encodes program.now p → Outlines outline.now p → p.functions ≡ before ++ (f ∷ following) → number ≡ length before → result ≡ checked_body before f }
+// Checks the body of a function that may call those before it: it has the type that the function promises.
+fn check_body(
+    program: &[u8],
+    callable: &[FunctionOutline],
+    function: &FunctionOutline,
+) -> Result<(), TypeFault>
+    ensures { (p : Program) (before : List Function) (f : Function) (following : List Function) → Encodes program.now p → p.functions ≡ before ++ (f ∷ following) → Callable callable.now before → Outlined (place_after before) function.now f → result ≡ checked_body before f }
 {
-    let function = outline.functions[number];
     let body = part_from(program, function.body);
-    let callable = &outline.functions[0..number];
-    let (found, _) = check_expression(body, program.len(), callable, &[function.parameter])?;
+    let mut scope = no_names();
+    scope.push(function.parameter);
+    let (found, _) = check_expression(body, program.len(), callable, &scope)?;
     if found != function.result {
         return Err(TypeFault::Mistyped(function.body));
     }
@@ -167,12 +182,11 @@ fn check_body(program: &[u8], outline: &Outline, number: usize) -> Result<(), Ty
 }
 
 // Checks the bodies of all functions, in their order.
-fn check_bodies(program: &[u8], outline: &Outline) -> Result<(), TypeFault>
-    requires { outline.now.count ≤ 16 }
-    ensures { (p : Program) → Encodes program.now p → Outlines outline.now p → result ≡ checked_bodies [] p.functions }
+fn check_bodies(program: &[u8], functions: &[FunctionOutline]) -> Result<(), TypeFault>
+    ensures { (p : Program) → Encodes program.now p → Callable functions.now p.functions → result ≡ checked_bodies [] p.functions }
 {
-    for number in 0..outline.count {
-        check_body(program, outline, number)?;
+    for (number, function) in functions.iter().enumerate() {
+        check_body(program, &functions[..number], function)?;
     }
     Ok(())
 }
@@ -188,12 +202,12 @@ pub struct TypedOutline {
 pub fn check_types(program: &[u8]) -> Result<TypedOutline, TypeFault>
     ensures exact { OutlinesTyped result (typed_of program.now) }
     ensures derived { ByRules program.now result }
-    ensures within { IfOk result (λ o. (length program.now ≤ 4096) × (o.outline.count ≤ 16)) }
+    ensures within { IfOk result (λ _. length program.now ≤ 4096) }
 {
     let outline = read(program)?;
-    check_bodies(program, &outline)?;
+    let functions = outline.functions.as_slice();
+    check_bodies(program, functions)?;
     let main = part_from(program, outline.main);
-    let callable = &outline.functions[0..outline.count];
-    let (value, _) = check_expression(main, program.len(), callable, &[])?;
+    let (value, _) = check_expression(main, program.len(), functions, &no_names())?;
     Ok(TypedOutline { outline, value })
 }

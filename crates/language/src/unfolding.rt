@@ -1,5 +1,6 @@
 // Unfolding: how large the main expression is with each call in the place of the body that it calls.
 ghost use Rattle.std.specs.Prelude.{◌≡◌, ℕ, ◌+◌, ◌<◌, ◌≤◌, List, [], ◌∷◌, ◌++◌, length, IfOk, MatchResult};
+ghost use Rattle.bounded.specs.Listed.{listed};
 ghost use Rattle.language.specs.Accepting.{Measures, Unfolds, ByAllRules};
 ghost use Rattle.language.specs.Grammar.{Encodes};
 ghost use Rattle.language.specs.Outlines.{Outlines};
@@ -51,7 +52,7 @@ fn measure<'a>(
 ) -> Result<(Figures, &'a [u8]), UnfoldFault>
     requires part { length bytes.now ≤ length program.now }
     requires short { length program.now ≤ 4096 }
-    requires below { below ≤ 16 }
+    requires below { below ≤ length (listed outline.now.functions) }
     requires flips { so_far.flips ≤ so_far.size }
     ensures measured { (p : Program) (Φ following : List Function) (Γ : List Ty) (e : Expr) (end : List ℕ) → Encodes program.now p → Outlines outline.now p → WellCalled p → p.functions ≡ Φ ++ following → length Φ ≡ below → bytes.now ≡ encode_expr e ++ end → Proper e → CallsBelow below e → Measures end so_far result (unfold_expr Φ (bodies_of Φ) Γ e) }
     ensures shorter { IfOk result (λ x. length x.1.now < length bytes.now) }
@@ -72,7 +73,7 @@ fn measure<'a>(
                 if number >= below {
                     return Err(UnfoldFault::Typing(TypeFault::NoFunction(place)));
                 }
-                let body = part_from(program, outline.functions[number].body);
+                let body = part_from(program, outline.functions.as_slice()[number].body);
                 let (with_body, _) = measure(program, outline, body, number, counted)?;
                 Ok((with_body, rest))
             }
@@ -100,7 +101,8 @@ pub fn unfold_main(program: &[u8]) -> Result<Unfolded, UnfoldFault>
     let typed = check_types(program)?;
     let outline = typed.outline;
     let main = part_from(program, outline.main);
-    let (figures, _) = measure(program, &outline, main, outline.count, Figures::NONE)?;
+    let all = outline.functions.len();
+    let (figures, _) = measure(program, &outline, main, all, Figures::NONE)?;
     if figures.flips > MOST_FLIPS {
         return Err(UnfoldFault::Flips);
     }

@@ -1,4 +1,4 @@
-use Rattle.std.proofs.Common.{Ok}
+use Rattle.std.proofs.Common.{Ok, sym, ◌∙◌}
 use Rattle.language.proofs.AcceptedBytes.{inspects_well, broke_inspecting}
 use Rattle.language.proofs.inspecting.inspect.Goals as goal
 
@@ -15,7 +15,7 @@ returns c =
       u.0,
       u.1,
       record {
-        functions_are = b.typed_is.outline_is.count_is;
+        functions_are = c.len.ensures.count ∙ sym b.typed_is.outline_is.functions_are.1;
         size_is = b.size_is;
         flips_are = b.flips_is;
         leaves_are = c.leaves.ensures.counted u.0.1 b.typed_is.value_is;

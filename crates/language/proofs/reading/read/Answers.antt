@@ -1,4 +1,4 @@
-use Rattle.std.proofs.Common.{◌-◌, ◌<◌, length, get_or, Ok, Err, sym, ap, ◌∙◌, arith, length-append, rules}
+use Rattle.std.proofs.Common.{◌-◌, ◌<◌, length, get_or, Ok, Err, ap, ◌∙◌, arith, length-append, rules}
 use Rattle.language.specs.declared.fault.ReadFault.TheVariants.{TooLong, Ends, Unknown, Trailing}
 use Rattle.language.specs.Syntax.{encode_functions}
 use Rattle.language.specs.Reading.{main_from}
@@ -45,7 +45,6 @@ returns c =
           ∙ main_begins (length s) fs.0 c.in_ok-functions.rest.now e.1
           ∙ closed_shut (length s) (record { functions = fs.0; main = e.0 }) c.in_ok-rest.rest.now (search rules),
       record {
-        count_is = sym f.2;
         functions_are = fs.1;
         main_is = omega (arith, ap length f.0, length-append (encode_functions fs.0) c.in_ok-functions.rest.now, length_after 1 s, some);
       },

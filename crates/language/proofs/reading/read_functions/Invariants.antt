@@ -1,5 +1,5 @@
 use Rattle.std.proofs.Common.{◌≡◌, ◌+◌, ◌-◌, List, length}
-use Rattle.language.specs.Outlines.{AllOutlined}
+use Rattle.language.specs.Outlines.{Functions}
 use Rattle.language.specs.Reading.{functions_from}
 use Rattle.language.specs.Syntax.{Function, encode_functions}
 use Rattle.language.proofs.ReadingFunctions.{to_come}
@@ -7,9 +7,8 @@ use Rattle.language.proofs.reading.read_functions.Given as goal
 
 abbrev pub invariant-loop-i : goal.invariant-loop-i
 invariant-loop-i l =
-    (length l.functions ≡ 16)
-    × (fs : List Function)
-    × (length fs ≡ l.i)
-    × AllOutlined l.functions fs
-    × (functions_from l.whole l.count l.bytes ≡ to_come l.whole fs (l.count - l.i) l.rest)
+    (fs : List Function)
+    × (length fs ≡ l._i)
+    × Functions l.functions fs
+    × (functions_from l.whole l.count l.bytes ≡ to_come l.whole fs (l.count - l._i) l.rest)
     × (length l.rest + length (encode_functions fs) ≡ length l.bytes)

@@ -1,5 +1,5 @@
-use Rattle.std.proofs.Common.{◌≡◌, ℕ, ◌+◌, ◌-◌, ◌≤◌, true, false, List, [], ◌∷◌, ◌++◌, length, take, Ok, sym, ap, ◌∙◌, subst, arith, not}
-use native.Mathlib.Nat.{sub-zero}
+use Rattle.std.proofs.Common.{◌≡◌, ℕ, ◌-◌, ◌≤◌, true, false, List, [], ◌∷◌, ◌++◌, length, Ok, sym, ap, ◌∙◌, subst, arith, not}
+use Rattle.bounded.specs.Listed.{listed}
 use Rattle.std.proofs.lemmas.Result.{IfOk-from_err, IfOk-weaker}
 use Rattle.language.specs.declared.types.TypeCode.{TypeCode}
 use Rattle.language.specs.declared.command.Operand.{Operand}
@@ -11,7 +11,7 @@ use Rattle.language.specs.Reading.{Read, command_from}
 use Rattle.language.specs.Typing.{check, Checked}
 use Rattle.language.proofs.Results.{as_read}
 use Rattle.language.proofs.Heads.{PartsAt, head_there, simple_at, if_at, let_at}
-use Rattle.language.proofs.CheckSteps.{same_coded, scope_length, scope_more}
+use Rattle.language.proofs.CheckSteps.{same_coded, full_scope, room_in_scope, scope_more}
 use Rattle.language.proofs.CheckExprs.{broke_past, past_same, check_plain, guard_fault, first_arm_fault, second_arm_fault, arms_agree, first_part_fault, names_over, second_part}
 use Rattle.language.proofs.typing.+check_expression.Goals as goal
 
@@ -133,27 +133,25 @@ returns-in_err-bound-in-Let t c = record {
   shorter = IfOk-from_err c.from_residual-in_err-bound-in-Let.result _ c.from_residual-in_err-bound-in-Let.ensures.0;
 }
 
-pub returns-then-scope-ge-MOST_NAMES : goal.returns-then-scope-ge-MOST_NAMES
-returns-then-scope-ge-MOST_NAMES t c = record {
+pub returns-then-is_full : goal.returns-then-is_full
+returns-then-is_full t c = record {
   types = λ Φ Γ e end call coded b h.
       let i = parts c.args.whole c.args.bytes.now c.in_ok-command.rest.now end e c.in_ok-command.command c.requires (as_read c.in_ok-command.ensures.gives) c.in-Let.is b h in
       let p = c.args.whole - length c.args.bytes.now in
       let f = c.in_ok-bound-in-Let.ensures.types Φ Γ i.first (encode_expr i.second ++ end) call coded i.rest_is i.first_proper in
-      ap (check Φ Γ p) i.expr_is ∙ names_over Φ Γ p i.first i.second (moved Φ Γ i.first f.2 i.first_place) (omega (arith, scope_length c.args.scope.now Γ coded));
+      ap (check Φ Γ p) i.expr_is ∙ names_over Φ Γ p i.first i.second (moved Φ Γ i.first f.2 i.first_place) (full_scope c.args.scope.now Γ coded (sym c.is_full.ensures ∙ c.if-is_full.true));
   shorter = tt;
 }
 
-pub returns-else-scope-ge-MOST_NAMES : goal.returns-else-scope-ge-MOST_NAMES
-returns-else-scope-ge-MOST_NAMES t c = record {
+pub returns-else-is_full : goal.returns-else-is_full
+returns-else-is_full t c = record {
   types = λ Φ Γ e end call coded b h.
       let i = parts c.args.whole c.args.bytes.now c.in_ok-command.rest.now end e c.in_ok-command.command c.requires (as_read c.in_ok-command.ensures.gives) c.in-Let.is b h in
       let p = c.args.whole - length c.args.bytes.now in
       let f = c.in_ok-bound-in-Let.ensures.types Φ Γ i.first (encode_expr i.second ++ end) call coded i.rest_is i.first_proper in
-      let n = length c.args.scope.now in
-      let names : take (n + 1 - 0) c.extended-names.result ≡ c.args.scope.now ++ (c.in_ok-bound-in-Let.bound ∷ []) = ap (λ (k : ℕ). take k c.extended-names.result) (sub-zero (n + 1)) ∙ c.extended-names.ensures in
-      let inner = subst (λ (ts : List TypeCode). AllCoded ts (Γ ++ (f.0 ∷ []))) (sym names) (scope_more c.args.scope.now Γ c.in_ok-bound-in-Let.bound f.0 coded f.1) in
+      let inner = subst (λ (ts : List TypeCode). AllCoded ts (Γ ++ (f.0 ∷ []))) (sym c.push.ensures) (scope_more (listed c.args.scope.now) Γ c.in_ok-bound-in-Let.bound f.0 coded f.1) in
       past_same end c.check_expression-in-Let-2.result
-      (ap (check Φ Γ p) i.expr_is ∙ second_part Φ Γ p i.first i.second (moved Φ Γ i.first f.2 i.first_place) (omega (arith, scope_length c.args.scope.now Γ coded))
+      (ap (check Φ Γ p) i.expr_is ∙ second_part Φ Γ p i.first i.second (moved Φ Γ i.first f.2 i.first_place) (room_in_scope c.args.scope.now Γ coded (sym c.is_full.ensures ∙ c.if-is_full.false))
       ∙ ap (λ (k : ℕ). check Φ (Γ ++ (f.0 ∷ [])) k i.second) (sym (i.second_place c.in_ok-bound-in-Let.rest.now f.3)))
       (c.check_expression-in-Let-2.ensures.types Φ (Γ ++ (f.0 ∷ [])) i.second end call inner f.3 i.second_proper);
   shorter =

@@ -1,5 +1,7 @@
-use Rattle.std.proofs.Common.{Result, sym, ap, ◌∙◌, subst}
+use Rattle.std.proofs.Common.{List, Result, sym, ap, ◌∙◌, subst}
 use Rattle.std.specs.Option.{ok_or}
+use Rattle.std.specs.Slice.{IsItemAt}
+use Rattle.bounded.specs.Listed.{listed}
 use Rattle.language.specs.declared.types.TypeCode.{TypeCode}
 use Rattle.language.specs.declared.command.Operand.TheVariants.{Name}
 use Rattle.language.specs.declared.fault.TypeFault.{TypeFault}
@@ -15,4 +17,4 @@ returns-in-Name c Γ h =
     rw c.in-Name.is
     (subst (λ (r : Result TypeCode TypeFault). Types r (type_of_operand Γ c.args.place (Name k)))
     (sym (c.ok_or.ensures.value ∙ ap (λ o. ok_or o (OutOfScope c.args.place)) c.copied-known.ensures))
-    (scope_found c.args.scope.now Γ k c.args.place c.get.result h c.get.ensures.lookup))
+    (scope_found (listed c.args.scope.now) Γ k c.args.place c.get.result h (subst (λ (ts : List TypeCode). IsItemAt ts k c.get.result) c.as_slice.ensures.items c.get.ensures.lookup)))

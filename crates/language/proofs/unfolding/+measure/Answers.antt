@@ -1,9 +1,9 @@
-use Rattle.std.proofs.Common.{◌≡◌, ℕ, ◌<◌, ◌≤◌, List, [], ◌∷◌, ◌++◌, length, get_or, Ok, ap, ◌∙◌, subst, arith, length-drop, rules}
+use Rattle.std.proofs.Common.{◌≡◌, ℕ, ◌<◌, ◌≤◌, List, [], ◌∷◌, ◌++◌, length, get_or, drop, Ok, sym, ap, ◌∙◌, subst, arith, length-drop}
 use Rattle.std.proofs.lemmas.Result.{IfOk-from_err, IfOk-weaker}
+use Rattle.language.specs.declared.reading.FunctionOutline.{FunctionOutline}
 use Rattle.language.specs.declared.command.Simple.{Simple}
 use Rattle.language.specs.declared.command.Command.{Command}
 use Rattle.language.specs.declared.command.Command.TheVariants as commands
-use Rattle.language.specs.Outlines.{no_function}
 use Rattle.language.specs.Syntax.{Ty, Expr, plain, encode_expr, Function, Proper}
 use Rattle.language.specs.Reading.{command_from}
 use Rattle.language.specs.Unfolding.{size, flips, unfold_simple, unfold_expr, bodies_of, CallsBelow}
@@ -72,7 +72,7 @@ returns-then-number-below t c = record {
 
 pub measure-requires : goal.measure-requires
 measure-requires t c =
-    let n : length c.part_from-body.result.now ≤ length c.args.program.now = omega (arith, ap length c.part_from-body.ensures, length-drop (get_or c.args.outline.now.functions c.in-Call.number no_function).body c.args.program.now) in
+    let n : length c.part_from-body.result.now ≤ length c.args.program.now = omega (arith, ap length c.part_from-body.ensures, length-drop (get_or c.as_slice.result.now c.in-Call.number c.index-as_slice-number.result).body c.args.program.now) in
     let k = c.in_ok-counted.ensures in
     (omega (arith, n, c.requires.short), (n, (c.requires.short, (omega arith, omega (arith, k.1, k.2)))))
 
@@ -82,7 +82,7 @@ returns-in_err-with_body-in-Call t c = record {
       let s = simple_is (length c.args.program.now) c.args.bytes.now c.in_ok-command.rest.now end e c.in_ok-command.command c.in-Simple.simple (as_read c.in_ok-command.ensures.gives) c.in-Simple.is b h in
       let k = c.in_ok-counted.ensures in
       let tree = tree_is Φ Γ e c.in-Simple.simple s.expr_is ∙ ap (unfold_simple (bodies_of Φ)) c.in-Call.is in
-      let r = call_ready c.args.program.now c.args.outline.now p Φ following c.in-Call.number c.part_from-body.result.now enc out well cut (omega (arith, n)) (search rules) c.part_from-body.ensures in
+      let r = call_ready c.args.program.now c.args.outline.now p Φ following c.in-Call.number c.index-as_slice-number.result c.part_from-body.result.now enc out well cut (omega (arith, n)) (c.index-as_slice-number.is ∙ ap (λ (fs : List FunctionOutline). get_or fs c.in-Call.number c.index-as_slice-number.result) c.as_slice.ensures.items) (c.part_from-body.ensures ∙ ap (λ (o : FunctionOutline). drop o.body c.args.program.now) (sym c.index-as_slice-number.is)) in
       let m = c.in_err-with_body-in-Call.ensures.measured p r.before r.later (r.function.parameter ∷ []) r.function.body r.rest enc out well r.cut r.count r.part_is r.proper r.calls in
       broke_measured end c.args.so_far c.from_residual-in_err-with_body-in-Call.result _ (unfold_expr Φ (bodies_of Φ) Γ e) c.from_residual-in_err-with_body-in-Call.ensures.1
       (m.0, omega (arith, m.1, k.1, ap size tree, ap size r.tree));
@@ -96,7 +96,7 @@ returns-in_ok-with_body-in-Call t c = record {
       let s = simple_is (length c.args.program.now) c.args.bytes.now c.in_ok-command.rest.now end e c.in_ok-command.command c.in-Simple.simple (as_read c.in_ok-command.ensures.gives) c.in-Simple.is b h in
       let k = c.in_ok-counted.ensures in
       let tree = tree_is Φ Γ e c.in-Simple.simple s.expr_is ∙ ap (unfold_simple (bodies_of Φ)) c.in-Call.is in
-      let r = call_ready c.args.program.now c.args.outline.now p Φ following c.in-Call.number c.part_from-body.result.now enc out well cut (omega (arith, n)) (search rules) c.part_from-body.ensures in
+      let r = call_ready c.args.program.now c.args.outline.now p Φ following c.in-Call.number c.index-as_slice-number.result c.part_from-body.result.now enc out well cut (omega (arith, n)) (c.index-as_slice-number.is ∙ ap (λ (fs : List FunctionOutline). get_or fs c.in-Call.number c.index-as_slice-number.result) c.as_slice.ensures.items) (c.part_from-body.ensures ∙ ap (λ (o : FunctionOutline). drop o.body c.args.program.now) (sym c.index-as_slice-number.is)) in
       let m = c.in_ok-with_body-in-Call.ensures.measured p r.before r.later (r.function.parameter ∷ []) r.function.body r.rest enc out well r.cut r.count r.part_is r.proper r.calls in
       (omega (arith, m.0, k.1, ap size tree, ap size r.tree), omega (arith, m.1, k.2, ap flips tree, ap flips r.tree), m.2, s.rest_is);
   shorter = c.in_ok-command.ensures.shorter;

@@ -1,4 +1,4 @@
-use Rattle.std.proofs.Common.{ℕ, [], length, Ok, Err, sym, ap, ◌∙◌, subst, append-nil, arith, length-drop, rules}
+use Rattle.std.proofs.Common.{◌≡◌, ℕ, [], length, Ok, Err, sym, ap, ◌∙◌, subst, append-nil, arith, length-drop}
 use Rattle.language.specs.declared.fault.UnfoldFault.TheVariants.{Typing, Flips}
 use Rattle.language.specs.Unfolding.{CallsBelow}
 use Rattle.language.proofs.TypedBytes.{typed_sound}
@@ -17,8 +17,8 @@ measure-requires c =
     let w = c.in_ok-typed.ensures.within in
     record {
       part = omega (arith, ap length c.part_from-main.ensures, length-drop c.in_ok-typed.typed.outline.main c.args.program.now);
-      short = w.0;
-      below = w.1;
+      short = w;
+      below = omega (arith, c.len-all.ensures.count);
       flips = omega arith;
     }
 
@@ -29,9 +29,10 @@ returns-in_err-figures c =
     let p = t.0.0 in
     let d = typed_sound s t.0 t.1 in
     let out = t.2.outline_is in
-    let m = main_ready s c.in_ok-typed.typed.outline p c.part_from-main.result.now d.0 out (search rules) c.part_from-main.ensures in
-    let calls = subst (λ (k : ℕ). CallsBelow k p.main) (sym out.count_is) (typed_calls d.1.main) in
-    let f = c.in_err-figures.ensures.measured p p.functions [] [] p.main m.rest d.0 out (well_called p t.0.1 d.1) (sym (append-nil p.functions)) (sym out.count_is) m.part_is d.0.1.main_proper calls in
+    let m = main_ready s c.in_ok-typed.typed.outline p c.part_from-main.result.now d.0 out c.part_from-main.ensures in
+    let count : length p.functions ≡ c.len-all.result = out.functions_are.1 ∙ sym c.len-all.ensures.count in
+    let calls = subst (λ (k : ℕ). CallsBelow k p.main) count (typed_calls d.1.main) in
+    let f = c.in_err-figures.ensures.measured p p.functions [] [] p.main m.rest d.0 out (well_called p t.0.1 d.1) (sym (append-nil p.functions)) count m.part_is d.0.1.main_proper calls in
     unfolds_well s c.from_residual-in_err-figures.result
     (broke_unfolding c.from_residual-in_err-figures.result _ c.from_residual-in_err-figures.ensures.1
     (accepted_typed s t.1 ∙ too_large t.0 (omega (arith, f.1)) ∙ ap Err (sym f.0)))
@@ -43,9 +44,10 @@ returns-then-figures-gt-MOST_FLIPS c =
     let p = t.0.0 in
     let d = typed_sound s t.0 t.1 in
     let out = t.2.outline_is in
-    let m = main_ready s c.in_ok-typed.typed.outline p c.part_from-main.result.now d.0 out (search rules) c.part_from-main.ensures in
-    let calls = subst (λ (k : ℕ). CallsBelow k p.main) (sym out.count_is) (typed_calls d.1.main) in
-    let f = c.in_ok-figures.ensures.measured p p.functions [] [] p.main m.rest d.0 out (well_called p t.0.1 d.1) (sym (append-nil p.functions)) (sym out.count_is) m.part_is d.0.1.main_proper calls in
+    let m = main_ready s c.in_ok-typed.typed.outline p c.part_from-main.result.now d.0 out c.part_from-main.ensures in
+    let count : length p.functions ≡ c.len-all.result = out.functions_are.1 ∙ sym c.len-all.ensures.count in
+    let calls = subst (λ (k : ℕ). CallsBelow k p.main) count (typed_calls d.1.main) in
+    let f = c.in_ok-figures.ensures.measured p p.functions [] [] p.main m.rest d.0 out (well_called p t.0.1 d.1) (sym (append-nil p.functions)) count m.part_is d.0.1.main_proper calls in
     unfolds_well s (Err Flips)
     (accepted_typed s t.1 ∙ too_many_flips t.0 (omega (arith, f.0, f.2)) (omega (arith, f.1)))
 
@@ -56,9 +58,10 @@ returns c =
     let p = t.0.0 in
     let d = typed_sound s t.0 t.1 in
     let out = t.2.outline_is in
-    let m = main_ready s c.in_ok-typed.typed.outline p c.part_from-main.result.now d.0 out (search rules) c.part_from-main.ensures in
-    let calls = subst (λ (k : ℕ). CallsBelow k p.main) (sym out.count_is) (typed_calls d.1.main) in
-    let f = c.in_ok-figures.ensures.measured p p.functions [] [] p.main m.rest d.0 out (well_called p t.0.1 d.1) (sym (append-nil p.functions)) (sym out.count_is) m.part_is d.0.1.main_proper calls in
+    let m = main_ready s c.in_ok-typed.typed.outline p c.part_from-main.result.now d.0 out c.part_from-main.ensures in
+    let count : length p.functions ≡ c.len-all.result = out.functions_are.1 ∙ sym c.len-all.ensures.count in
+    let calls = subst (λ (k : ℕ). CallsBelow k p.main) count (typed_calls d.1.main) in
+    let f = c.in_ok-figures.ensures.measured p p.functions [] [] p.main m.rest d.0 out (well_called p t.0.1 d.1) (sym (append-nil p.functions)) count m.part_is d.0.1.main_proper calls in
     unfolds_well s (Ok _) (
       t.0,
       accepted_typed s t.1 ∙ within_limits t.0 (omega (arith, f.0, f.2)) (omega (arith, f.1)),
