@@ -1,5 +1,5 @@
 -- The rules name one answer.
-use Rattle.std.proofs.Common.{◌≡◌, ℕ, ◌<◌, ◌↔◌, List, [], ◌∷◌, ◌++◌, length, Some, Ok, Err, Result, sym, refl, ap, ◌∙◌, subst, arith, slice_get}
+use Rattle.std.proofs.Common.{◌≡◌, ℕ, ◌<◌, ◌↔◌, List, [], ◌∷◌, ◌++◌, length, Some, Ok, Err, sym, refl, ap, ◌∙◌, subst, arith, slice_get}
 use Rattle.language.specs.declared.fault.UnfoldFault.{UnfoldFault}
 use Rattle.language.specs.Accepting.{Accepted}
 use Rattle.language.specs.Syntax.{Ty, Program, leaves}
@@ -16,15 +16,6 @@ use Rattle.line_book.specs.Rooms.{Room, NoRoom}
 use Rattle.line_book.specs.Histories.{Act, taking, asking, clearing, Reply, Step, step, History, after, PatternOf, TakeRefused, TakeAccepted, TakeAnswers, QuestionRefused, QuestionAccepted, QuestionAnswers, Lawful, AllLawful, acts, RulesDecide}
 use Rattle.line_book.proofs.Numbers.{one_number, not_both}
 
-ok_err : {A E : Type 0} {x : A} {e : E} {r : Result A E} → r ≡ Ok x → r ≡ Err e → ⊥
-ok_err p q = let z : ◌≡◌ {A = ℕ} 0 1 = cc in omega arith
-
-ok_same : {A E : Type 0} {x y : A} {r : Result A E} → r ≡ Ok x → r ≡ Ok y → x ≡ y
-ok_same p q = cc
-
-err_same : {A E : Type 0} {e f : E} {r : Result A E} → r ≡ Err e → r ≡ Err f → e ≡ f
-err_same p q = cc
-
 -- room for formulas, and none for them
 no_both : (n : ℕ) (fs : List Formula) → Room n fs → NoRoom n fs → ⊥
 no_both n fs r no_r = no_r r.0 r.1 r.2
@@ -32,10 +23,10 @@ no_both n fs r no_r = no_r r.0 r.1 r.2
 module _ (room : ℕ) (s : Standing) (bytes : List ℕ) where
   -- the bytes encode one program
   one_program : (p q : Program) (σ τ : Ty) → Accepted bytes p σ → Accepted bytes q τ → ◌≡◌ {A = Program × Ty} (p, σ) (q, τ)
-  one_program p q σ τ a b = ok_same (accepted_complete bytes p σ a) (accepted_complete bytes q τ b)
+  one_program p q σ τ a b = cc (accepted_complete bytes p σ a, accepted_complete bytes q τ b)
 
   accepted_not : (p : Program) (τ : Ty) (e : UnfoldFault) → Accepted bytes p τ → accepted_of bytes ≡ Err e → ⊥
-  accepted_not p τ e a h = ok_err (accepted_complete bytes p τ a) h
+  accepted_not p τ e a h = cc (accepted_complete bytes p τ a)
 
   room_not : (p q : Program) (σ τ : Ty) → Accepted bytes p σ → Accepted bytes q τ → Room room (s.formulas ++ formed_by (unfolded p)) → NoRoom room (s.formulas ++ formed_by (unfolded q)) → ⊥
   room_not p q σ τ a b r n = no_both room (s.formulas ++ formed_by (unfolded q)) (subst (λ (x : Program × Ty). Room room (s.formulas ++ formed_by (unfolded x.0))) (one_program p q σ τ a b) r) n
@@ -57,7 +48,7 @@ module _ (room : ℕ) (s : Standing) (bytes : List ℕ) where
   taken_not t Questions a b = b
 
   one_fault : (f g : BookFault) → TakeRefused room s bytes f → TakeRefused room s bytes g → f ≡ g
-  one_fault (Unfolding e) (Unfolding d) a b = ap Unfolding (err_same a b)
+  one_fault (Unfolding e) (Unfolding d) a b = cc
   one_fault (Unfolding e) Entries a b = absurd (accepted_not b.0.0 b.0.1 e b.0.2 a)
   one_fault (Unfolding e) Nodes a b = absurd (accepted_not b.0 b.1 e b.2 a)
   one_fault (Unfolding e) NoEntry a b = absurd b
@@ -155,8 +146,8 @@ one_answer room s clearing r q l m = l ∙ sym m
 one_history : (room : ℕ) (s : Standing) (h g : History) → acts h ≡ acts g → AllLawful room s h → AllLawful room s g → h ≡ g
 unfolding AllLawful acts
 one_history room s [] [] e l m = refl
-one_history room s [] (step b q ∷ g) e l m = absurd (let z : ◌≡◌ {A = ℕ} 0 1 = cc in omega arith)
-one_history room s (step a r ∷ h) [] e l m = absurd (let z : ◌≡◌ {A = ℕ} 0 1 = cc in omega arith)
+one_history room s [] (step b q ∷ g) e l m = cc
+one_history room s (step a r ∷ h) [] e l m = cc
 one_history room s (step a r ∷ h) (step b q ∷ g) e l m =
     let ab : a ≡ b = cc in
     let rest : acts h ≡ acts g = cc in
