@@ -1,6 +1,7 @@
 -- Histories of one call more.
 use Rattle.std.proofs.Common.{◌≡◌, ℕ, min, List, [], ◌∷◌, ◌++◌, length, sym, refl, ap, subst, arith}
 use mathlib.Core.Logic.{∥∥₁_map}
+use Rattle.std.proofs.lemmas.Slice.Zip.{AllZip-long}
 use Rattle.bounded.specs.declared.Bounded.{Bounded}
 use Rattle.bounded.specs.Listed.{listed}
 use Rattle.diagram.specs.declared.Table.{Table}
@@ -40,6 +41,13 @@ came_more h x v w size c l st =
       lawful = subst R (sym size) (lawful_more (room v) nothing h x c.lawful l);
       stands = subst P (sym (standing_more nothing h x)) st;
     }
+
+-- as many entries and questions stand as the book holds
+pub entries_long : (s : Standing) (v : View) → Stands s v → length s.entries ≡ length v.entries
+entries_long s v st = AllZip-long _ v.entries s.entries st.entries_are
+
+pub questions_long : (s : Standing) (v : View) → Stands s v → length s.questions ≡ length v.questions
+questions_long s v st = AllZip-long _ v.questions s.questions st.questions_are
 
 -- the lists of a table that was not touched, of one that grew, and of one that was cut
 pub lent_self : (s : Table) → Lent s s

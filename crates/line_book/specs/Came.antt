@@ -1,6 +1,8 @@
 -- What it is for a book to have come from a history.
-use Rattle.std.specs.Prelude.{◌≡◌, ℕ, ◌≤◌, min, List, [], length, get_or, take, Some, Ok, slice_index_or, slice_get}
+use Rattle.std.specs.Prelude.{◌≡◌, ℕ, ◌≤◌, min, List, [], length, take, Some, Ok, All, slice_get}
+use Rattle.std.specs.List.{AllZip}
 use Rattle.std.specs.Borrow.{MutBor}
+use Rattle.bounded.specs.Listed.{listed}
 use Rattle.compiling.specs.declared.programs.Model.{Model}
 use Rattle.compiling.specs.Terms.{Stands as StandsFor, Decides, AllWithin}
 use Rattle.diagram.specs.declared.Node.{Node}
@@ -39,46 +41,25 @@ kept v = take v.used v.nodes
 abbrev pub room : View → ℕ
 room v = min (length v.nodes) 16384
 
--- elements that are not there
-abbrev pub no_model : Model
-no_model = record {
-  main = record { value = record { kind = record { len = 0; bytes = [] }; leaves = [] }; evidence = 0 };
-  flips = record { count = 0; rows = [] };
-}
-
-abbrev pub no_entry : Entry
-no_entry = record { model = no_model }
-
-abbrev pub no_question : Question
-no_question = record { entry = 0; reference = 0 }
-
-abbrev pub model_at : View → ℕ → Model
-model_at v k = (get_or v.entries k no_entry).model
-
-abbrev pub question_at : View → ℕ → Question
-question_at v k = slice_index_or v.questions k no_question
-
 -- the references of an entry decide as the formulas of its program, and its flips have that program's rows
 pub record EntryOf (ns : List Node) (m : Model) (x : Entered) : Type 0 where
   pub accepted : (bytes : List ℕ) × (accepted_of bytes ≡ Ok x)
-  pub within : AllWithin ns m.main.value.leaves
+  pub within : AllWithin ns (listed m.main.value.leaves)
   pub value_stands : StandsFor ns m.main.value x.1 (formed (unfolded x.0) [] 0).0
   pub evidence_stands : Decides ns m.main.evidence (evidence_of (unfolded x.0))
-  pub flips_are : m.flips.count ≡ flips (unfolded x.0)
-  pub rows_are : take m.flips.count m.flips.rows ≡ rows (unfolded x.0)
+  pub flips_are : length (listed m.flips) ≡ flips (unfolded x.0)
+  pub rows_are : listed m.flips ≡ rows (unfolded x.0)
 
 -- the reference of a question decides as the formula that it asks
 pub record QuestionOf (ns : List Node) (q : Question) (x : Posed) : Type 0 where
   pub entry_is : q.entry ≡ x.entry
   pub reference_stands : Decides ns q.reference (question (unfolded x.entered.0) x.pattern)
 
--- a book holds what stands, and each of its nodes is needed by the formulas formed
+-- a book holds what stands, one for one, and each of its nodes is needed by the formulas formed
 pub record Stands (s : Standing) (v : View) : Type 0 where
-  pub taken_are : length v.entries ≡ length s.entries
-  pub asked_are : length v.questions ≡ length s.questions
-  pub entries_are : (k : ℕ) (x : Entered) → slice_get s.entries k ≡ Some x → EntryOf (kept v) (model_at v k) x
-  pub questions_are : (k : ℕ) (x : Posed) → slice_get s.questions k ≡ Some x → QuestionOf (kept v) (question_at v k) x
-  pub asked_of : (k : ℕ) (x : Posed) → slice_get s.questions k ≡ Some x → slice_get s.entries x.entry ≡ Some x.entered
+  pub entries_are : AllZip (λ e x. EntryOf (kept v) e.model x) v.entries s.entries
+  pub questions_are : AllZip (QuestionOf (kept v)) v.questions s.questions
+  pub asked_of : All (λ x. slice_get s.entries x.entry ≡ Some x.entered) s.questions
   pub held : HoldsAll (kept v) (Among s.formulas)
   pub needed : AllNeeded (Among s.formulas) (kept v)
   pub below : (f : Formula) → Among s.formulas f → Below 128 f
