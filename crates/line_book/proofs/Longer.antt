@@ -16,7 +16,8 @@ use Rattle.line_book.specs.Histories.{Step, History, after, standing, Lawful, Al
 use Rattle.line_book.specs.Came.{View, view, room, Stands, Came, Lent}
 use Rattle.line_book.specs.Reading.{Right}
 use Rattle.line_book.specs.Seen.{seen}
-use Rattle.line_book.proofs.Carried.{book_valid, Carries, carries}
+use Rattle.diagram.proofs.Validity.{table_valid}
+use Rattle.line_book.proofs.Carried.{Carries}
 use Rattle.line_book.proofs.Rights.{came_right}
 
 pub standing_more : (s : Standing) (h : History) (x : Step) → standing s (h ++ (x ∷ [])) ≡ after (standing s h) x
@@ -54,7 +55,7 @@ pub lent_self : (s : Table) → Lent s s
 lent_self s = record { lists = lists_self s; size = refl; beyond = λ k h. refl }
 
 pub remembered_self : (b : Book) → Remembered b.table b.table
-remembered_self b = record { valid = book_valid b; nodes = refl; used = refl; lists = lists_self b.table }
+remembered_self b = record { valid = table_valid b.table; nodes = refl; used = refl; lists = lists_self b.table }
 
 pub remembered : (s t : Table) → Restored s t → Remembered s t
 remembered s t r = record { valid = r.valid; nodes = r.nodes; used = r.used; lists = r.lists }
@@ -100,7 +101,7 @@ module _ (b : Book) (t : Table) where
       _ (same_view r)
 
   pub carries_same : Remembered b.table t → Carries t b.entries b.questions
-  carries_same r = carries t b.entries b.questions r.valid (∥∥₁_map b.came (λ k. (k.0, subst (Came k.0) (sym (same_view r)) k.1)))
+  carries_same r = record { came = ∥∥₁_map b.came (λ k. (k.0, subst (Came k.0) (sym (same_view r)) k.1)) }
 
-  pub carries_more : (es : Bounded Entry 8) (qs : Bounded Question 64) (x : Step) → Valid t → ((h : History) → Came h (seen b) → Came (h ++ (x ∷ [])) (view t (listed es) (listed qs))) → Carries t es qs
-  carries_more es qs x valid came = carries t es qs valid (∥∥₁_map b.came (λ k. (k.0 ++ (x ∷ []), came k.0 k.1)))
+  pub carries_more : (es : Bounded Entry 8) (qs : Bounded Question 64) (x : Step) → ((h : History) → Came h (seen b) → Came (h ++ (x ∷ [])) (view t (listed es) (listed qs))) → Carries t es qs
+  carries_more es qs x came = record { came = ∥∥₁_map b.came (λ k. (k.0 ++ (x ∷ []), came k.0 k.1)) }
