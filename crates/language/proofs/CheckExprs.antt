@@ -1,7 +1,8 @@
 -- Checking an expression, step by step.
-use Rattle.std.proofs.Common.{◌≡◌, ℕ, ◌+◌, ◌<◌, ◌≤◌, Bool, ltb, List, [], ◌∷◌, ◌++◌, length, IsErrAnd, Ok, Err, Result, sym, refl, ap, ◌∙◌, subst, Bor, le-ltb, lt-ltb}
+use Rattle.std.proofs.Common.{◌≡◌, ℕ, ◌+◌, ◌<◌, ◌≤◌, Bool, ltb, List, [], ◌∷◌, ◌++◌, length, IsErrAnd, Ok, Err, Result, sym, refl, ap, ◌∙◌, subst, le-ltb, lt-ltb}
 use Rattle.language.specs.declared.fault.TypeFault.{TypeFault}
 use Rattle.language.specs.declared.fault.TypeFault.TheVariants.{Mistyped, OverLimit}
+use Rattle.language.specs.declared.rest.Rest.{Rest}
 use Rattle.language.specs.declared.types.TypeCode.{TypeCode}
 use Rattle.language.specs.declared.command.Operand.{Operand}
 use Rattle.language.specs.declared.command.Simple.{Simple}
@@ -12,13 +13,13 @@ use Rattle.language.specs.Typing.{Checked, same_type, need, bool_operand, checke
 use Rattle.language.proofs.Results.{then_at, then_err}
 
 -- the exit of a `?` with the fault unchanged
-pub broke_past : (end : List ℕ) {out : Checked Ty} (r : Result (TypeCode × Bor (List ℕ)) TypeFault) (e : TypeFault) → IsErrAnd r (λ y. y ≡ e) → out ≡ Err e → TypesPast end r out
-broke_past end (Ok x) e h q = absurd h
-broke_past end (Err fault) e h q = q ∙ ap Err (sym h)
+pub broke_past : (end : List ℕ) (w : ℕ) {out : Checked Ty} (r : Result (TypeCode × Rest) TypeFault) (e : TypeFault) → IsErrAnd r (λ y. y ≡ e) → out ≡ Err e → TypesPast end w r out
+broke_past end w (Ok x) e h q = absurd h
+broke_past end w (Err fault) e h q = q ∙ ap Err (sym h)
 
 -- the same answer to a definition that gives the same
-pub past_same : (end : List ℕ) (r : Result (TypeCode × Bor (List ℕ)) TypeFault) {out out' : Checked Ty} → out' ≡ out → TypesPast end r out → TypesPast end r out'
-past_same end r e h = subst (TypesPast end r) (sym e) h
+pub past_same : (end : List ℕ) (r : Result (TypeCode × Rest) TypeFault) {w w' : ℕ} {out out' : Checked Ty} → w' ≡ w → out ≡ out' → TypesPast end w' r out' → TypesPast end w r out
+past_same end r {w = w} {out' = out'} n e h = subst (TypesPast end w r) (sym e) (subst (λ (v : ℕ). TypesPast end v r out') n h)
 
 module _ (Φ : List Function) (Γ : List Ty) (p : ℕ) where
   pub check_plain : (s : Simple) → check Φ Γ p (plain s) ≡ checked_simple Φ Γ p s

@@ -1,6 +1,7 @@
 -- Reading an expression.
-use Rattle.std.proofs.Common.{◌≡◌, ℕ, ◌⊎◌, List, IsErrAnd, Ok, Err, Result, sym, ap, ◌∙◌, inl, inr, Bor}
+use Rattle.std.proofs.Common.{◌≡◌, ℕ, ◌⊎◌, List, IsErrAnd, Ok, Err, Result, sym, ap, ◌∙◌, inl, inr}
 use Rattle.language.specs.declared.fault.ReadFault.{ReadFault}
+use Rattle.language.specs.declared.rest.Rest.{Rest}
 use Rattle.language.specs.Outlines.{Passes}
 use Rattle.language.specs.declared.command.Operand.{Operand}
 use Rattle.language.specs.declared.command.Command.{Command}
@@ -11,13 +12,13 @@ use Rattle.language.proofs.Trees.{fork_second, fork_both}
 use Rattle.language.proofs.Encoding.{expr_after}
 
 -- the exit of a `?` with the fault unchanged
-pub broke_passing : {A : Type 0} {out : Result (A × List ℕ) ReadFault} (r : Result (Bor (List ℕ)) ReadFault) (e : ReadFault) → IsErrAnd r (λ y. y ≡ e) → out ≡ Err e → Passes r out
-broke_passing (Ok rest) e h q = absurd h
-broke_passing (Err fault) e h q = q ∙ ap Err (sym h)
+pub broke_passing : {A : Type 0} (w : ℕ) {out : Result (A × List ℕ) ReadFault} (r : Result Rest ReadFault) (e : ReadFault) → IsErrAnd r (λ y. y ≡ e) → out ≡ Err e → Passes w r out
+broke_passing w (Ok rest) e h q = absurd h
+broke_passing w (Err fault) e h q = q ∙ ap Err (sym h)
 
 -- after the first of two parts
-pub second_passed : (w : ℕ) (make : Expr → Expr → Expr) (rest rest' : List ℕ) {out : Read Expr} {x : Expr} → out ≡ grow (expr_from w) (fork make) rest → expr_from w rest ≡ Ok (x, rest') → (r : Result (Bor (List ℕ)) ReadFault) → Passes r (expr_from w rest') → Passes r out
-second_passed w make rest rest' {x = x} e e' (Ok end) p = (make x p.0, e ∙ fork_both (expr_from w) make rest e' p.1)
+pub second_passed : (w : ℕ) (make : Expr → Expr → Expr) (rest rest' : List ℕ) {out : Read Expr} {x : Expr} → out ≡ grow (expr_from w) (fork make) rest → expr_from w rest ≡ Ok (x, rest') → (r : Result Rest ReadFault) → Passes w r (expr_from w rest') → Passes w r out
+second_passed w make rest rest' {x = x} e e' (Ok end) p = (make x p.0, e ∙ fork_both (expr_from w) make rest e' p.1, p.2)
 second_passed w make rest rest' e e' (Err fault) p = e ∙ fork_second (expr_from w) make rest e' p
 
 -- an if and a let are followed by two expressions

@@ -1,5 +1,6 @@
 -- Results worked out one after the other.
-use Rattle.std.proofs.Common.{◌≡◌, ℕ, List, IsErrAnd, Ok, Err, Result, sym, refl, ap, ◌∙◌, arith, Bor}
+use Rattle.std.proofs.Common.{◌≡◌, ℕ, List, IsErrAnd, Ok, Err, Result, sym, refl, ap, ◌∙◌, arith}
+use Rattle.language.specs.declared.rest.Rest.{Rest}
 use Rattle.language.specs.Outcomes.{and_then, Follows}
 
 -- a fault is no accepted value
@@ -26,10 +27,14 @@ pub then_err : {E A B : Type 0} {r : Result A E} (f : A → Result B E) {fault :
 then_err f e = ap (λ r. and_then r f) e
 
 -- the exit of a `?` with the fault unchanged
-pub broke : {E A B : Type 0} (S : A → B → Type 0) {out : Result (B × List ℕ) E} (r : Result (A × Bor (List ℕ)) E) (e : E) → IsErrAnd r (λ y. y ≡ e) → out ≡ Err e → Follows S r out
-broke S (Ok rest) e h q = absurd h
-broke S (Err fault) e h q = q ∙ ap Err (sym h)
+pub broke : {E A B : Type 0} (S : A → B → Type 0) (w : ℕ) {out : Result (B × List ℕ) E} (r : Result (A × Rest) E) (e : E) → IsErrAnd r (λ y. y ≡ e) → out ≡ Err e → Follows S w r out
+broke S w (Ok rest) e h q = absurd h
+broke S w (Err fault) e h q = q ∙ ap Err (sym h)
 
 -- code that answers with the value itself
-pub as_read : {E A : Type 0} {x : A} {rest : List ℕ} {out : Result (A × List ℕ) E} → (y : A) × (x ≡ y) × (out ≡ Ok (y, rest)) → out ≡ Ok (x, rest)
-as_read {rest = rest} (y, e, h) = h ∙ ap (λ z. Ok (z, rest)) (sym e)
+pub as_read : {E A : Type 0} {x : A} {rest : List ℕ} {out : Result (A × List ℕ) E} {w w' : ℕ} → (y : A) × (x ≡ y) × (out ≡ Ok (y, rest)) × (w ≡ w') → out ≡ Ok (x, rest)
+as_read {rest = rest} (y, e, h, _) = h ∙ ap (λ z. Ok (z, rest)) (sym e)
+
+-- a definition at the whole of what is left
+pub at_whole : {X : Type 0} (f : ℕ → X) {w w' : ℕ} {x : X} → w' ≡ w → f w' ≡ x → f w ≡ x
+at_whole f e h = ap f (sym e) ∙ h

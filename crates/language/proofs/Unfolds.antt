@@ -1,5 +1,5 @@
 -- Unfolding, step by step.
-use Rattle.std.proofs.Common.{◌≡◌, ℕ, zero, suc, ◌+◌, ◌<◌, ◌≤◌, ◌⊎◌, List, [], ◌∷◌, ◌++◌, length, get_or, drop, IsErrAnd, Ok, Err, Result, sym, refl, ap, ◌∙◌, subst, inl, inr, append_assoc, append-nil, le_of_suc-le-suc, not-suc-le-zero, arith, length-append, Bor}
+use Rattle.std.proofs.Common.{◌≡◌, ℕ, zero, suc, ◌+◌, ◌<◌, ◌≤◌, ◌⊎◌, List, [], ◌∷◌, ◌++◌, length, get_or, drop, IsErrAnd, Ok, Err, Result, sym, refl, ap, ◌∙◌, subst, inl, inr, append_assoc, append-nil, le_of_suc-le-suc, not-suc-le-zero, arith, length-append}
 use Rattle.std.proofs.lemmas.List.{length_push}
 use Rattle.language.specs.declared.command.Operand.{Operand}
 use Rattle.language.specs.declared.command.Simple.{Simple}
@@ -11,6 +11,7 @@ use Rattle.language.specs.declared.fault.UnfoldFault.TheVariants.{Size}
 use Rattle.bounded.specs.Listed.{listed}
 use Rattle.language.specs.declared.reading.FunctionOutline.{FunctionOutline}
 use Rattle.language.specs.declared.reading.Outline.{Outline}
+use Rattle.language.specs.declared.rest.Rest.{Rest}
 use Rattle.language.specs.declared.unfolding.Figures.{Figures}
 use Rattle.language.specs.Accepting.{Measures}
 use Rattle.language.specs.Grammar.{Encodes}
@@ -187,12 +188,12 @@ pub record CallReady (p : Program) (Φ : List Function) (number : ℕ) (part : L
   pub calls : CallsBelow number function.body
   pub tree : body_at (bodies_of Φ) number ≡ unfold_expr before (bodies_of before) (function.parameter ∷ []) function.body
 
-pub call_ready : (bytes : List ℕ) (o : Outline) (p : Program) (Φ following : List Function) (number : ℕ) (function : FunctionOutline) (part : List ℕ) → Encodes bytes p → Outlines o p → WellCalled p → p.functions ≡ Φ ++ following → number < length Φ → function ≡ get_or (listed o.functions) number function → part ≡ drop function.body bytes → CallReady p Φ number part
-call_ready bytes o p Φ following number function part enc out well e h is d =
+pub call_ready : (o : Outline) (p : Program) (Φ following : List Function) (number : ℕ) (function : FunctionOutline) (part : List ℕ) → Encodes o.program.now p → Outlines o p → WellCalled p → p.functions ≡ Φ ++ following → number < length Φ → function ≡ get_or (listed o.functions) number function → part ≡ drop function.body o.program.now → CallReady p Φ number part
+call_ready o p Φ following number function part enc out well e h is d =
     let c = cut_at Φ number h in
     let whole : p.functions ≡ c.0 ++ (c.1 ∷ (c.2 ++ following)) = e ∙ ap (λ (x : List Function). x ++ following) c.3 ∙ append_assoc c.0 (c.1 ∷ c.2) following in
     let one = body_given (listed o.functions) p.functions c.0 c.1 (c.2 ++ following) number function out.functions_are whole c.4 is in
-    let r = body_ready bytes p c.0 c.1 (c.2 ++ following) function part enc whole one.1 d in
+    let r = body_ready o.program.now p c.0 c.1 (c.2 ++ following) function part enc whole one.1 d in
     record {
       before = c.0;
       function = c.1;
@@ -207,11 +208,11 @@ call_ready bytes o p Φ following number function part enc out well e h is d =
     }
 
 -- the exit of a `?` with the fault unchanged
-pub broke_measured : (end : List ℕ) (sofar : Figures) (r : Result (Figures × Bor (List ℕ)) UnfoldFault) (e : UnfoldFault) (t : Tree) → IsErrAnd r (λ y. y ≡ e) → (e ≡ Size) × (4096 < sofar.size + size t) → Measures end sofar r t
-broke_measured end sofar (Ok x) e t h q = absurd h
-broke_measured end sofar (Err fault) e t h q = (h ∙ q.0, q.1)
+pub broke_measured : (end : List ℕ) (w : ℕ) (sofar : Figures) (r : Result (Figures × Rest) UnfoldFault) (e : UnfoldFault) (t : Tree) → IsErrAnd r (λ y. y ≡ e) → (e ≡ Size) × (4096 < sofar.size + size t) → Measures end w sofar r t
+broke_measured end w sofar (Ok x) e t h q = absurd h
+broke_measured end w sofar (Err fault) e t h q = (h ∙ q.0, q.1)
 
 -- after a first part, the figures of the second
-pub measured_more : (end : List ℕ) (sofar with : Figures) (r : Result (Figures × Bor (List ℕ)) UnfoldFault) (t u whole : Tree) → with.size ≡ sofar.size + 1 + size t → with.flips ≡ sofar.flips + flips t → size whole ≡ 1 + (size t + size u) → flips whole ≡ flips t + flips u → Measures end with r u → Measures end sofar r whole
-measured_more end sofar with (Ok x) t u whole s f s' f' h = (omega (arith, h.0), omega (arith, h.1), h.2, h.3)
-measured_more end sofar with (Err fault) t u whole s f s' f' h = (h.0, omega (arith, h.1))
+pub measured_more : (end : List ℕ) {w w' : ℕ} (sofar with : Figures) (r : Result (Figures × Rest) UnfoldFault) (t u whole : Tree) → w' ≡ w → with.size ≡ sofar.size + 1 + size t → with.flips ≡ sofar.flips + flips t → size whole ≡ 1 + (size t + size u) → flips whole ≡ flips t + flips u → Measures end w' with r u → Measures end w sofar r whole
+measured_more end sofar with (Ok x) t u whole n s f s' f' h = (omega (arith, h.0), omega (arith, h.1), h.2, h.3, h.4 ∙ n)
+measured_more end sofar with (Err fault) t u whole n s f s' f' h = (h.0, omega (arith, h.1))

@@ -1,6 +1,6 @@
 -- Which programs the three layers accept, and with which figures.
 use Rattle.std.specs.Prelude.{◌≡◌, ℕ, ◌+◌, ◌<◌, ◌≤◌, true, ◌↔◌, List, length, is_ok, Ok, Err, Result}
-use Rattle.std.specs.Borrow.{Bor}
+use Rattle.language.specs.declared.rest.Rest.{Rest}
 use Rattle.language.specs.declared.fault.UnfoldFault.{UnfoldFault}
 use Rattle.language.specs.declared.fault.UnfoldFault.TheVariants.{Typing, Size, Flips}
 use Rattle.language.specs.declared.unfolding.Figures.{Figures}
@@ -12,10 +12,10 @@ use Rattle.language.specs.Typing.{WellTyped}
 use Rattle.language.specs.TypedPrograms.{OutlinesBoth}
 use Rattle.language.specs.Unfolding.{Tree, size, flips, unfolded, typed_of}
 
--- code adds the figures of a tree to those so far, or finds more than 4,096 commands
-abbrev pub Measures : (end : List ℕ) → Figures → Result (Figures × Bor (List ℕ)) UnfoldFault → Tree → Type 0
-Measures end sofar (Ok x) t = (x.0.size ≡ sofar.size + size t) × (x.0.flips ≡ sofar.flips + flips t) × (x.0.size ≤ 4096) × (x.1.now ≡ end)
-Measures end sofar (Err fault) t = (fault ≡ Size) × (4096 < sofar.size + size t)
+-- code adds the figures of a tree to those so far, with what is left of a program of `whole` bytes, or finds more than 4,096 commands
+abbrev pub Measures : (end : List ℕ) (whole : ℕ) → Figures → Result (Figures × Rest) UnfoldFault → Tree → Type 0
+Measures end whole sofar (Ok x) t = (x.0.size ≡ sofar.size + size t) × (x.0.flips ≡ sofar.flips + flips t) × (x.0.size ≤ 4096) × (x.1.bytes.now ≡ end) × (x.1.whole ≡ whole)
+Measures end whole sofar (Err fault) t = (fault ≡ Size) × (4096 < sofar.size + size t)
 
 -- what the code keeps of a program that is accepted
 pub record UnfoldsBoth (u : Unfolded) (x : Program × Ty) : Type 0 where

@@ -1,13 +1,13 @@
 -- What the code keeps of a program's types and functions.
 use Rattle.std.specs.Prelude.{◌≡◌, ℕ, ◌+◌, ◌<◌, ◌≤◌, List, [], ◌∷◌, ◌++◌, length, Some, None, Ok, Err, Option, Result, slice_index_or}
-use Rattle.std.specs.Borrow.{Bor}
+use Rattle.language.specs.declared.rest.Rest.{Rest}
 use Rattle.bounded.specs.declared.Bounded.{Bounded}
 use Rattle.bounded.specs.Listed.{listed}
 use Rattle.language.specs.declared.fault.ReadFault.{ReadFault}
 use Rattle.language.specs.declared.types.TypeCode.{TypeCode}
 use Rattle.language.specs.declared.reading.FunctionOutline.{FunctionOutline}
 use Rattle.language.specs.declared.reading.Outline.{Outline}
-use Rattle.language.specs.Syntax.{Ty, bool, product, leaves, encode_ty, Function, Program, place_after, body_place}
+use Rattle.language.specs.Syntax.{Ty, bool, product, leaves, encode_ty, Function, Program, encode, place_after, body_place}
 
 -- the bytes of a type that the code holds
 abbrev pub type_bytes : TypeCode → List ℕ
@@ -55,6 +55,7 @@ Functions os fs = Callable (listed os) fs
 
 -- and of a program
 pub record Outlines (o : Outline) (p : Program) : Type 0 where
+  pub program_is : o.program.now ≡ encode p
   pub functions_are : Functions o.functions p.functions
   pub main_is : o.main ≡ place_after p.functions
 
@@ -63,10 +64,10 @@ abbrev pub Reads : Result Outline ReadFault → Result Program ReadFault → Typ
 Reads (Ok o) out = (p : Program) × (out ≡ Ok p) × Outlines o p
 Reads (Err fault) out = out ≡ Err fault
 
--- code answers only with the bytes that follow
-abbrev pub Passes : {A : Type 0} → Result (Bor (List ℕ)) ReadFault → Result (A × List ℕ) ReadFault → Type 0
-Passes {A = A} (Ok rest) out = (x : A) × (out ≡ Ok (x, rest.now))
-Passes (Err fault) out = out ≡ Err fault
+-- code answers only with what is left of a program of `whole` bytes
+abbrev pub Passes : {A : Type 0} (whole : ℕ) → Result Rest ReadFault → Result (A × List ℕ) ReadFault → Type 0
+Passes {A = A} whole (Ok rest) out = (x : A) × (out ≡ Ok (x, rest.bytes.now)) × (rest.whole ≡ whole)
+Passes whole (Err fault) out = out ≡ Err fault
 
 -- the code holds these types, one at each number
 abbrev pub AllCoded : List TypeCode → List Ty → Type 0
@@ -85,7 +86,7 @@ abbrev pub PartsTyped : {E : Type 0} → Result (TypeCode × TypeCode) E → Res
 PartsTyped (Ok t) out = (σ : Ty) × (τ : Ty) × Coded t.0 σ × Coded t.1 τ × (out ≡ Ok (σ, τ))
 PartsTyped (Err fault) out = out ≡ Err fault
 
--- and besides with the bytes that follow
-abbrev pub TypesPast : {E : Type 0} → (rest : List ℕ) → Result (TypeCode × Bor (List ℕ)) E → Result Ty E → Type 0
-TypesPast rest (Ok x) out = (τ : Ty) × Coded x.0 τ × (out ≡ Ok τ) × (x.1.now ≡ rest)
-TypesPast rest (Err fault) out = out ≡ Err fault
+-- and besides with what is left, the last bytes of a program of `whole` bytes
+abbrev pub TypesPast : {E : Type 0} → (rest : List ℕ) (whole : ℕ) → Result (TypeCode × Rest) E → Result Ty E → Type 0
+TypesPast rest whole (Ok x) out = (τ : Ty) × Coded x.0 τ × (out ≡ Ok τ) × (x.1.bytes.now ≡ rest) × (x.1.whole ≡ whole)
+TypesPast rest whole (Err fault) out = out ≡ Err fault

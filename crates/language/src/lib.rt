@@ -7,6 +7,7 @@ pub mod command;
 pub mod fault;
 pub mod inspecting;
 pub mod reading;
+pub mod rest;
 pub mod types;
 pub mod typing;
 pub mod unfolding;

@@ -1,13 +1,14 @@
 // Reading: a program's bytes from left to right, to the first fault or to an outline.
-ghost use Rattle.std.specs.Prelude.{◌≡◌, ◌+◌, ◌-◌, ◌<◌, ◌≤◌, [], length, IfOk};
+ghost use Rattle.std.specs.Prelude.{◌≡◌, ◌+◌, ◌-◌, ◌<◌, ◌≤◌, [], length, drop, IfOk};
 ghost use Rattle.bounded.specs.Listed.{listed};
 ghost use Rattle.language.specs.Grammar.{ByGrammar};
 ghost use Rattle.language.specs.Outcomes.{Follows};
 ghost use Rattle.language.specs.Outlines.{Coded, Outlined, Functions, Reads, Passes};
 ghost use Rattle.language.specs.Reading.{narrow_from, expr_from, function_from, functions_from, tree_of};
 
-use crate::command::{Command, next_command};
+use crate::command::Command;
 use crate::fault::ReadFault;
+use crate::rest::Rest;
 use crate::types::{MOST_LEAVES, TypeCode, read_leaves};
 use bounded::Bounded;
 
@@ -24,53 +25,69 @@ pub struct FunctionOutline {
     pub body: usize,
 }
 
-// A program that was read: its functions, and the place of the main expression.
+// A program that was read: its bytes, its functions, and the place of the main expression.
 #[derive(Clone, Copy)]
-pub struct Outline {
+pub struct Outline<'p> {
+    pub program: &'p [u8],
     pub functions: Bounded<FunctionOutline, MOST_FUNCTIONS>,
     pub main: usize,
 }
 
-// The type at the front of `bytes`, the last ones of a program of `whole` bytes, and the bytes after it.
-fn read_type(bytes: &[u8], whole: usize) -> Result<(TypeCode, &[u8]), ReadFault>
-    requires { length bytes.now ≤ whole }
-    ensures gives { Follows Coded result (narrow_from whole bytes.now) }
-    ensures shorter { IfOk result (λ x. length x.1.now < length bytes.now) }
-{
-    let (leaves, rest) = read_leaves(bytes, whole)?;
-    if leaves > MOST_LEAVES {
-        return Err(ReadFault::TooWide(whole - bytes.len()));
+impl<'p> Outline<'p> {
+    // The program from its main expression on.
+    pub fn main_part(&self) -> Rest<'p>
+        ensures bytes { result.bytes.now ≡ drop self.now.main self.now.program.now }
+        ensures whole { result.whole ≡ length self.now.program.now }
+    {
+        Rest::of(self.program, self.main)
     }
-    let end = bytes.len() - rest.len();
-    Ok((TypeCode::of(&bytes[0..end]), rest))
+
+    // The program from the body of a function on.
+    pub fn body_part(&self, function: &FunctionOutline) -> Rest<'p>
+        ensures bytes { result.bytes.now ≡ drop function.now.body self.now.program.now }
+        ensures whole { result.whole ≡ length self.now.program.now }
+    {
+        Rest::of(self.program, function.body)
+    }
 }
 
-// The bytes after the expression at the front of `bytes`.
-fn read_expression(bytes: &[u8], whole: usize) -> Result<&[u8], ReadFault>
-    requires { length bytes.now ≤ whole }
-    ensures gives { Passes result (expr_from whole bytes.now) }
-    ensures shorter { IfOk result (λ rest. length rest.now < length bytes.now) }
+// The type at the front, and what is left behind it.
+fn read_type<'p>(part: Rest<'p>) -> Result<(TypeCode, Rest<'p>), ReadFault>
+    ensures gives { Follows Coded part.entry.whole result (narrow_from part.entry.whole part.entry.bytes.now) }
+    ensures shorter { IfOk result (λ x. length x.1.bytes.now < length part.entry.bytes.now) }
 {
-    let (command, rest) = next_command(bytes, whole)?;
+    let (leaves, rest) = read_leaves(part)?;
+    if leaves > MOST_LEAVES {
+        return Err(ReadFault::TooWide(part.place()));
+    }
+    let end = part.bytes.len() - rest.bytes.len();
+    Ok((TypeCode::of(&part.bytes[0..end]), rest))
+}
+
+// What is left behind the expression at the front.
+fn read_expression<'p>(part: Rest<'p>) -> Result<Rest<'p>, ReadFault>
+    ensures gives { Passes part.entry.whole result (expr_from part.entry.whole part.entry.bytes.now) }
+    ensures shorter { IfOk result (λ rest. length rest.bytes.now < length part.entry.bytes.now) }
+{
+    let (command, rest) = part.next_command()?;
     match command {
         Command::Simple(_) => Ok(rest),
         Command::If(_) | Command::Let => {
-            let rest = read_expression(rest, whole)?;
-            read_expression(rest, whole)
+            let rest = read_expression(rest)?;
+            read_expression(rest)
         }
     }
 }
 
-// The function at the front of `bytes`, and the bytes after it.
-fn read_function(bytes: &[u8], whole: usize) -> Result<(FunctionOutline, &[u8]), ReadFault>
-    requires { length bytes.now ≤ whole }
-    ensures gives { Follows (Outlined (whole - length bytes.now)) result (function_from whole bytes.now) }
-    ensures shorter { IfOk result (λ x. length x.1.now < length bytes.now) }
+// The function at the front, and what is left behind it.
+fn read_function<'p>(part: Rest<'p>) -> Result<(FunctionOutline, Rest<'p>), ReadFault>
+    ensures gives { Follows (Outlined (part.entry.whole - length part.entry.bytes.now)) part.entry.whole result (function_from part.entry.whole part.entry.bytes.now) }
+    ensures shorter { IfOk result (λ x. length x.1.bytes.now < length part.entry.bytes.now) }
 {
-    let (parameter, rest) = read_type(bytes, whole)?;
-    let (result, rest) = read_type(rest, whole)?;
-    let body = whole - rest.len();
-    let rest = read_expression(rest, whole)?;
+    let (parameter, rest) = read_type(part)?;
+    let (result, rest) = read_type(rest)?;
+    let body = rest.place();
+    let rest = read_expression(rest)?;
     let function = FunctionOutline {
         parameter,
         result,
@@ -90,21 +107,20 @@ fn no_functions() -> Bounded<FunctionOutline, MOST_FUNCTIONS>
     })
 }
 
-// The `count` functions that stand at the front of `bytes`, all but the first one of a program's bytes, and the bytes after them.
-fn read_functions(
-    bytes: &[u8],
-    whole: usize,
+// The `count` functions that stand at the front of all but the first byte of a program, and what is left behind them.
+fn read_functions<'p>(
+    part: Rest<'p>,
     count: usize,
-) -> Result<(Bounded<FunctionOutline, MOST_FUNCTIONS>, &[u8]), ReadFault>
-    requires whole { length bytes.now + 1 ≡ whole }
+) -> Result<(Bounded<FunctionOutline, MOST_FUNCTIONS>, Rest<'p>), ReadFault>
+    requires whole { length part.bytes.now + 1 ≡ part.whole }
     requires count { count ≤ 16 }
-    ensures gives { Follows Functions result (functions_from whole count bytes.now) }
-    ensures shorter { IfOk result (λ x. length x.1.now ≤ length bytes.now) }
+    ensures gives { Follows Functions part.entry.whole result (functions_from part.entry.whole count part.entry.bytes.now) }
+    ensures shorter { IfOk result (λ x. length x.1.bytes.now ≤ length part.entry.bytes.now) }
 {
     let mut functions = no_functions();
-    let mut rest = bytes;
+    let mut rest = part;
     for _i in 0..count {
-        let (function, following) = read_function(rest, whole)?;
+        let (function, following) = read_function(rest)?;
         functions.push(function);
         rest = following;
     }
@@ -112,26 +128,29 @@ fn read_functions(
 }
 
 // The outline of a program, or the first fault.
-pub fn read(program: &[u8]) -> Result<Outline, ReadFault>
+pub fn read<'p>(program: &'p [u8]) -> Result<Outline<'p>, ReadFault>
     ensures exact { Reads result (tree_of program.now) }
     ensures grammar { ByGrammar program.now result }
 {
     if program.len() > MOST_BYTES {
         return Err(ReadFault::TooLong);
     }
-    let whole = program.len();
-    let [count, rest @ ..] = program else {
-        return Err(ReadFault::Ends(whole));
+    let [count, ..] = program else {
+        return Err(ReadFault::Ends(program.len()));
     };
     let count = *count as usize;
     if count > MOST_FUNCTIONS {
         return Err(ReadFault::Unknown(0));
     }
-    let (functions, rest) = read_functions(rest, whole, count)?;
-    let main = whole - rest.len();
-    let rest = read_expression(rest, whole)?;
-    if !rest.is_empty() {
-        return Err(ReadFault::Trailing(whole - rest.len()));
+    let (functions, rest) = read_functions(Rest::of(program, 1), count)?;
+    let main = rest.place();
+    let rest = read_expression(rest)?;
+    if !rest.bytes.is_empty() {
+        return Err(ReadFault::Trailing(rest.place()));
     }
-    Ok(Outline { functions, main })
+    Ok(Outline {
+        program,
+        functions,
+        main,
+    })
 }

@@ -10,6 +10,7 @@ ghost use Rattle.language.specs.Reading.{type_from};
 ghost use Rattle.language.specs.Syntax.{Ty, bool};
 
 use crate::fault::ReadFault;
+use crate::rest::Rest;
 use bounded::Bounded;
 
 // The most leaves that a type may have.
@@ -88,28 +89,28 @@ impl TypeCode {
         let [1, parts @ ..] = self.as_slice() else {
             return None;
         };
-        let Ok((_, second)) = read_leaves(parts, parts.len()) else {
+        let Ok((_, second)) = read_leaves(Rest::of(parts, 0)) else {
             return None;
         };
-        let end = parts.len() - second.len();
-        Some((TypeCode::of(&parts[0..end]), TypeCode::of(second)))
+        let end = second.place();
+        Some((TypeCode::of(&parts[0..end]), TypeCode::of(second.bytes)))
     }
 }
 
-// The number of leaves of the type at the front of `bytes`, the last ones of a program of `whole` bytes, and the bytes after it.
-pub(crate) fn read_leaves(bytes: &[u8], whole: usize) -> Result<(usize, &[u8]), ReadFault>
-    requires { length bytes.now ≤ whole }
-    ensures gives { Follows Counted result (type_from whole bytes.now) }
-    ensures shorter { IfOk result (λ x. x.0 + length x.1.now ≤ length bytes.now) }
+// The number of leaves of the type at the front, and what is left behind it.
+pub(crate) fn read_leaves<'p>(part: Rest<'p>) -> Result<(usize, Rest<'p>), ReadFault>
+    ensures gives { Follows Counted part.entry.whole result (type_from part.entry.whole part.entry.bytes.now) }
+    ensures shorter { IfOk result (λ x. x.0 + length x.1.bytes.now ≤ length part.entry.bytes.now) }
 {
-    match bytes {
-        [0, rest @ ..] => Ok((1, rest)),
-        [1, rest @ ..] => {
-            let (first, rest) = read_leaves(rest, whole)?;
-            let (second, rest) = read_leaves(rest, whole)?;
+    let whole = part.whole;
+    match part.bytes {
+        [0, bytes @ ..] => Ok((1, Rest { bytes, whole })),
+        [1, bytes @ ..] => {
+            let (first, rest) = read_leaves(Rest { bytes, whole })?;
+            let (second, rest) = read_leaves(rest)?;
             Ok((first + second, rest))
         }
         [] => Err(ReadFault::Ends(whole)),
-        _ => Err(ReadFault::Unknown(whole - bytes.len())),
+        _ => Err(ReadFault::Unknown(part.place())),
     }
 }

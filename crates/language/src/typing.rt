@@ -2,15 +2,16 @@
 ghost use Rattle.std.specs.Prelude.{◌≡◌, ℕ, ◌+◌, ◌-◌, ◌<◌, ◌≤◌, List, [], ◌∷◌, ◌++◌, length, drop, IfOk};
 ghost use Rattle.bounded.specs.Listed.{listed};
 ghost use Rattle.language.specs.Grammar.{Encodes};
-ghost use Rattle.language.specs.Outlines.{Coded, AllCoded, Outlined, Callable, Types, TypesPast, PartsTyped};
+ghost use Rattle.language.specs.Outlines.{Coded, AllCoded, Outlined, Callable, Outlines, Types, TypesPast, PartsTyped};
 ghost use Rattle.language.specs.Syntax.{Ty, Expr, Function, Program, Proper, encode_expr, place_after};
 ghost use Rattle.language.specs.Typing.{type_of_operand, bool_operand, pair_operand, call_type, checked_simple, check, checked_body, checked_bodies};
 ghost use Rattle.language.specs.TypedPrograms.{OutlinesTyped, ByRules};
 ghost use Rattle.language.specs.Unfolding.{typed_of};
 
-use crate::command::{Command, Operand, Simple, next_command};
+use crate::command::{Command, Operand, Simple};
 use crate::fault::TypeFault;
 use crate::reading::{FunctionOutline, Outline, read};
+use crate::rest::Rest;
 use crate::types::TypeCode;
 use bounded::Bounded;
 
@@ -117,19 +118,17 @@ fn check_simple(
     }
 }
 
-// The type of the expression at the front of `bytes`, the last ones of a program of `whole` bytes, and the bytes after it.
-fn check_expression<'a>(
-    bytes: &'a [u8],
-    whole: usize,
+// The type of the expression at the front, and what is left behind it.
+fn check_expression<'p>(
+    part: Rest<'p>,
     functions: &[FunctionOutline],
     scope: &Scope,
-) -> Result<(TypeCode, &'a [u8]), TypeFault>
-    requires { length bytes.now ≤ whole }
-    ensures types { (Φ : List Function) (Γ : List Ty) (e : Expr) (end : List ℕ) → Callable functions.now Φ → AllCoded (listed scope.now) Γ → bytes.now ≡ encode_expr e ++ end → Proper e → TypesPast end result (check Φ Γ (whole - length bytes.now) e) }
-    ensures shorter { IfOk result (λ x. length x.1.now < length bytes.now) }
+) -> Result<(TypeCode, Rest<'p>), TypeFault>
+    ensures types { (Φ : List Function) (Γ : List Ty) (e : Expr) (end : List ℕ) → Callable functions.now Φ → AllCoded (listed scope.now) Γ → part.entry.bytes.now ≡ encode_expr e ++ end → Proper e → TypesPast end part.entry.whole result (check Φ Γ (part.entry.whole - length part.entry.bytes.now) e) }
+    ensures shorter { IfOk result (λ x. length x.1.bytes.now < length part.entry.bytes.now) }
 {
-    let place = whole - bytes.len();
-    let (command, rest) = next_command(bytes, whole)?;
+    let place = part.place();
+    let (command, rest) = part.next_command()?;
     match command {
         Command::Simple(simple) => {
             let found = check_simple(functions, scope, simple, place)?;
@@ -137,44 +136,37 @@ fn check_expression<'a>(
         }
         Command::If(guard) => {
             check_bool(scope, guard, place)?;
-            let (first, rest) = check_expression(rest, whole, functions, scope)?;
-            let (second, rest) = check_expression(rest, whole, functions, scope)?;
+            let (first, rest) = check_expression(rest, functions, scope)?;
+            let (second, rest) = check_expression(rest, functions, scope)?;
             if first != second {
                 return Err(TypeFault::Mistyped(place));
             }
             Ok((second, rest))
         }
         Command::Let => {
-            let (bound, rest) = check_expression(rest, whole, functions, scope)?;
+            let (bound, rest) = check_expression(rest, functions, scope)?;
             if scope.is_full() {
                 return Err(TypeFault::OverLimit(place));
             }
             let mut names = *scope;
             names.push(bound);
-            check_expression(rest, whole, functions, &names)
+            check_expression(rest, functions, &names)
         }
     }
 }
 
-// The part of a program from a place on.
-pub fn part_from(program: &[u8], place: usize) -> &[u8]
-    ensures { result.now ≡ drop place program.now }
-{
-    program.get(place..).unwrap_or(&[])
-}
-
 // Checks the body of a function that may call those before it: it has the type that the function promises.
 fn check_body(
-    program: &[u8],
+    outline: &Outline,
     callable: &[FunctionOutline],
     function: &FunctionOutline,
 ) -> Result<(), TypeFault>
-    ensures { (p : Program) (before : List Function) (f : Function) (following : List Function) → Encodes program.now p → p.functions ≡ before ++ (f ∷ following) → Callable callable.now before → Outlined (place_after before) function.now f → result ≡ checked_body before f }
+    ensures { (p : Program) (before : List Function) (f : Function) (following : List Function) → Encodes outline.now.program.now p → p.functions ≡ before ++ (f ∷ following) → Callable callable.now before → Outlined (place_after before) function.now f → result ≡ checked_body before f }
 {
-    let body = part_from(program, function.body);
+    let body = outline.body_part(function);
     let mut scope = no_names();
     scope.push(function.parameter);
-    let (found, _) = check_expression(body, program.len(), callable, &scope)?;
+    let (found, _) = check_expression(body, callable, &scope)?;
     if found != function.result {
         return Err(TypeFault::Mistyped(function.body));
     }
@@ -182,32 +174,32 @@ fn check_body(
 }
 
 // Checks the bodies of all functions, in their order.
-fn check_bodies(program: &[u8], functions: &[FunctionOutline]) -> Result<(), TypeFault>
-    ensures { (p : Program) → Encodes program.now p → Callable functions.now p.functions → result ≡ checked_bodies [] p.functions }
+fn check_bodies(outline: &Outline) -> Result<(), TypeFault>
+    ensures { (p : Program) → Encodes outline.now.program.now p → Outlines outline.now p → result ≡ checked_bodies [] p.functions }
 {
+    let functions = outline.functions.as_slice();
     for (number, function) in functions.iter().enumerate() {
-        check_body(program, &functions[..number], function)?;
+        check_body(outline, &functions[..number], function)?;
     }
     Ok(())
 }
 
 // A program that was read and typed: its outline, and the type of its main expression.
 #[derive(Clone, Copy)]
-pub struct TypedOutline {
-    pub outline: Outline,
+pub struct TypedOutline<'p> {
+    pub outline: Outline<'p>,
     pub value: TypeCode,
 }
 
 // The outline of a program with the type of its main expression, or the first fault of reading and typing.
-pub fn check_types(program: &[u8]) -> Result<TypedOutline, TypeFault>
+pub fn check_types<'p>(program: &'p [u8]) -> Result<TypedOutline<'p>, TypeFault>
     ensures exact { OutlinesTyped result (typed_of program.now) }
     ensures derived { ByRules program.now result }
     ensures within { IfOk result (λ _. length program.now ≤ 4096) }
 {
     let outline = read(program)?;
+    check_bodies(&outline)?;
     let functions = outline.functions.as_slice();
-    check_bodies(program, functions)?;
-    let main = part_from(program, outline.main);
-    let (value, _) = check_expression(main, program.len(), functions, &no_names())?;
+    let (value, _) = check_expression(outline.main_part(), functions, &no_names())?;
     Ok(TypedOutline { outline, value })
 }

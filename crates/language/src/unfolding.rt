@@ -8,10 +8,11 @@ ghost use Rattle.language.specs.Syntax.{Ty, Expr, Function, Program, Proper, enc
 ghost use Rattle.language.specs.Unfolding.{unfold_expr, bodies_of, CallsBelow, WellCalled, accepted_of};
 ghost use Rattle.language.specs.declared.fault.UnfoldFault.TheVariants.{Size};
 
-use crate::command::{Command, Simple, next_command};
+use crate::command::{Command, Simple};
 use crate::fault::{TypeFault, UnfoldFault};
 use crate::reading::Outline;
-use crate::typing::{TypedOutline, check_types, part_from};
+use crate::rest::Rest;
+use crate::typing::{TypedOutline, check_types};
 
 // The most commands and the most flips of an unfolded main expression.
 pub const MOST_COMMANDS: usize = 4096;
@@ -42,24 +43,21 @@ impl Figures {
     }
 }
 
-// Adds the figures of the expression at the front of `bytes`, unfolded, to `so_far`. It may call the first `below` functions.
-fn measure<'a>(
-    program: &[u8],
+// Adds the figures of the expression at the front, unfolded, to `so_far`. It may call the first `below` functions.
+fn measure<'p>(
     outline: &Outline,
-    bytes: &'a [u8],
+    part: Rest<'p>,
     below: usize,
     so_far: Figures,
-) -> Result<(Figures, &'a [u8]), UnfoldFault>
-    requires part { length bytes.now ≤ length program.now }
-    requires short { length program.now ≤ 4096 }
+) -> Result<(Figures, Rest<'p>), UnfoldFault>
+    requires short { length outline.now.program.now ≤ 4096 }
     requires below { below ≤ length (listed outline.now.functions) }
     requires flips { so_far.flips ≤ so_far.size }
-    ensures measured { (p : Program) (Φ following : List Function) (Γ : List Ty) (e : Expr) (end : List ℕ) → Encodes program.now p → Outlines outline.now p → WellCalled p → p.functions ≡ Φ ++ following → length Φ ≡ below → bytes.now ≡ encode_expr e ++ end → Proper e → CallsBelow below e → Measures end so_far result (unfold_expr Φ (bodies_of Φ) Γ e) }
-    ensures shorter { IfOk result (λ x. length x.1.now < length bytes.now) }
+    ensures measured { (p : Program) (Φ following : List Function) (Γ : List Ty) (e : Expr) (end : List ℕ) → Encodes outline.now.program.now p → Outlines outline.now p → WellCalled p → p.functions ≡ Φ ++ following → length Φ ≡ below → part.entry.bytes.now ≡ encode_expr e ++ end → Proper e → CallsBelow below e → Measures end part.entry.whole so_far result (unfold_expr Φ (bodies_of Φ) Γ e) }
+    ensures shorter { IfOk result (λ x. length x.1.bytes.now < length part.entry.bytes.now) }
     ensures within { IfOk result (λ x. x.0.flips ≤ x.0.size) }
 {
-    let place = program.len() - bytes.len();
-    let (command, rest) = next_command(bytes, program.len())?;
+    let (command, rest) = part.next_command()?;
     let counted = so_far.with_command()?;
     match command {
         Command::Simple(simple) => match simple {
@@ -71,38 +69,37 @@ fn measure<'a>(
             Simple::Call(number, _) => {
                 let number = number as usize;
                 if number >= below {
-                    return Err(UnfoldFault::Typing(TypeFault::NoFunction(place)));
+                    return Err(UnfoldFault::Typing(TypeFault::NoFunction(part.place())));
                 }
-                let body = part_from(program, outline.functions.as_slice()[number].body);
-                let (with_body, _) = measure(program, outline, body, number, counted)?;
+                let body = outline.body_part(&outline.functions.as_slice()[number]);
+                let (with_body, _) = measure(outline, body, number, counted)?;
                 Ok((with_body, rest))
             }
             _ => Ok((counted, rest)),
         },
         Command::If(_) | Command::Let => {
-            let (with_first, rest) = measure(program, outline, rest, below, counted)?;
-            measure(program, outline, rest, below, with_first)
+            let (with_first, rest) = measure(outline, rest, below, counted)?;
+            measure(outline, rest, below, with_first)
         }
     }
 }
 
 // A program that is accepted: what typing found, and the figures of its unfolded main expression.
 #[derive(Clone, Copy)]
-pub struct Unfolded {
-    pub typed: TypedOutline,
+pub struct Unfolded<'p> {
+    pub typed: TypedOutline<'p>,
     pub figures: Figures,
 }
 
 // What the three layers find of a program, or the first fault.
-pub fn unfold_main(program: &[u8]) -> Result<Unfolded, UnfoldFault>
+pub fn unfold_main<'p>(program: &'p [u8]) -> Result<Unfolded<'p>, UnfoldFault>
     ensures exact { Unfolds result (accepted_of program.now) }
     ensures rules { ByAllRules program.now result }
 {
     let typed = check_types(program)?;
-    let outline = typed.outline;
-    let main = part_from(program, outline.main);
+    let outline = &typed.outline;
     let all = outline.functions.len();
-    let (figures, _) = measure(program, &outline, main, all, Figures::NONE)?;
+    let (figures, _) = measure(outline, outline.main_part(), all, Figures::NONE)?;
     if figures.flips > MOST_FLIPS {
         return Err(UnfoldFault::Flips);
     }

@@ -10,5 +10,6 @@ invariant-loop-i l =
     (fs : List Function)
     × (length fs ≡ l._i)
     × Functions l.functions fs
-    × (functions_from l.whole l.count l.bytes ≡ to_come l.whole fs (l.count - l._i) l.rest)
-    × (length l.rest + length (encode_functions fs) ≡ length l.bytes)
+    × (functions_from l.part.whole l.count l.part.bytes.now ≡ to_come l.part.whole fs (l.count - l._i) l.rest.bytes.now)
+    × (length l.rest.bytes.now + length (encode_functions fs) ≡ length l.part.bytes.now)
+    × (l.rest.whole ≡ l.part.whole)

@@ -18,7 +18,7 @@ front w s rest τ e =
 pub of-requires : goal.of-requires
 of-requires c =
     let g = c.in_ok-leaves.ensures.gives in
-    let e = front c.args.whole c.args.bytes.now c.in_ok-leaves.rest.now g.0 g.2 in
+    let e = front c.args.part.whole c.args.part.bytes.now c.in_ok-leaves.rest.bytes.now g.0 g.2 in
     omega (arith, ap length e, type_length g.0, g.1)
 
 pub returns : goal.returns
@@ -28,8 +28,9 @@ returns c =
     record {
       gives = (
         g.0,
-        c.of.ensures ∙ front c.args.whole c.args.bytes.now c.in_ok-leaves.rest.now g.0 g.2,
-        then_at _ g.2 ∙ ap (λ (b : Bool). cond b (Ok (g.0, c.in_ok-leaves.rest.now)) (Err (TooWide (c.args.whole - length c.args.bytes.now)))) (le-leb (leaves g.0) 16 n),
+        c.of.ensures ∙ front c.args.part.whole c.args.part.bytes.now c.in_ok-leaves.rest.bytes.now g.0 g.2,
+        then_at _ g.2 ∙ ap (λ (b : Bool). cond b (Ok (g.0, c.in_ok-leaves.rest.bytes.now)) (Err (TooWide (c.args.part.whole - length c.args.part.bytes.now)))) (le-leb (leaves g.0) 16 n),
+        g.3,
       );
-      shorter = type_short c.args.whole c.args.bytes.now _ g.2;
+      shorter = type_short c.args.part.whole c.args.part.bytes.now _ g.2;
     }

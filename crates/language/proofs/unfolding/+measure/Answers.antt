@@ -1,5 +1,6 @@
-use Rattle.std.proofs.Common.{◌≡◌, ℕ, ◌<◌, ◌≤◌, List, [], ◌∷◌, ◌++◌, length, get_or, drop, Ok, sym, ap, ◌∙◌, subst, arith, length-drop}
+use Rattle.std.proofs.Common.{◌≡◌, ℕ, ◌<◌, ◌≤◌, List, [], ◌∷◌, ◌++◌, length, get_or, Ok, ap, ◌∙◌, subst, arith, length-drop}
 use Rattle.std.proofs.lemmas.Result.{IfOk-from_err, IfOk-weaker}
+use Rattle.bounded.specs.Listed.{listed}
 use Rattle.language.specs.declared.reading.FunctionOutline.{FunctionOutline}
 use Rattle.language.specs.declared.command.Simple.{Simple}
 use Rattle.language.specs.declared.command.Command.{Command}
@@ -22,7 +23,7 @@ tree_is Φ Γ e s i = ap (unfold_expr Φ (bodies_of Φ) Γ) i ∙ simple_tree Φ
 
 pub returns-in_err-command : goal.returns-in_err-command
 returns-in_err-command t c = record {
-  measured = λ p Φ following Γ e end enc out well cut n b h calls. absurd (head_there (length c.args.program.now) c.args.bytes.now end e b h c.in_err-command.ensures.gives);
+  measured = λ p Φ following Γ e end enc out well cut n b h calls. absurd (head_there c.args.part.whole c.args.part.bytes.now end e b h c.in_err-command.ensures.gives);
   shorter = IfOk-from_err c.from_residual.result _ c.from_residual.ensures.0;
   within = IfOk-from_err c.from_residual.result _ c.from_residual.ensures.0;
 }
@@ -31,7 +32,7 @@ pub returns-in_err-counted : goal.returns-in_err-counted
 returns-in_err-counted t c = record {
   measured = λ p Φ following Γ e end enc out well cut n b h calls.
       let k = c.in_err-counted.ensures in
-      broke_measured end c.args.so_far c.from_residual-in_err-counted.result _ (unfold_expr Φ (bodies_of Φ) Γ e) c.from_residual-in_err-counted.ensures.1
+      broke_measured end c.args.part.whole c.args.so_far c.from_residual-in_err-counted.result _ (unfold_expr Φ (bodies_of Φ) Γ e) c.from_residual-in_err-counted.ensures.1
       (k.1, omega (arith, k.0, some_size (unfold_expr Φ (bodies_of Φ) Γ e)));
   shorter = IfOk-from_err c.from_residual-in_err-counted.result _ c.from_residual-in_err-counted.ensures.0;
   within = IfOk-from_err c.from_residual-in_err-counted.result _ c.from_residual-in_err-counted.ensures.0;
@@ -40,10 +41,10 @@ returns-in_err-counted t c = record {
 pub returns-in-Flip : goal.returns-in-Flip
 returns-in-Flip t c = record {
   measured = λ p Φ following Γ e end enc out well cut n b h calls.
-      let s = simple_is (length c.args.program.now) c.args.bytes.now c.in_ok-command.rest.now end e c.in_ok-command.command c.in-Simple.simple (as_read c.in_ok-command.ensures.gives) c.in-Simple.is b h in
+      let s = simple_is c.args.part.whole c.args.part.bytes.now c.in_ok-command.rest.bytes.now end e c.in_ok-command.command c.in-Simple.simple (as_read c.in_ok-command.ensures.gives) c.in-Simple.is b h in
       let k = c.in_ok-counted.ensures in
       let e = tree_is Φ Γ e c.in-Simple.simple s.expr_is ∙ ap (unfold_simple (bodies_of Φ)) c.in-Flip.is in
-      (omega (arith, k.1, ap size e), omega (arith, k.2, ap flips e), omega (arith, k.0, k.1), s.rest_is);
+      (omega (arith, k.1, ap size e), omega (arith, k.2, ap flips e), omega (arith, k.0, k.1), s.rest_is, c.in_ok-command.ensures.gives.3);
   shorter = c.in_ok-command.ensures.shorter;
   within = omega (arith, c.in_ok-counted.ensures.1, c.in_ok-counted.ensures.2);
 }
@@ -51,11 +52,11 @@ returns-in-Flip t c = record {
 pub returns-in_default : goal.returns-in_default
 returns-in_default t c = record {
   measured = λ p Φ following Γ e end enc out well cut n b h calls.
-      let s = simple_is (length c.args.program.now) c.args.bytes.now c.in_ok-command.rest.now end e c.in_ok-command.command c.in-Simple.simple (as_read c.in_ok-command.ensures.gives) c.in-Simple.is b h in
+      let s = simple_is c.args.part.whole c.args.part.bytes.now c.in_ok-command.rest.bytes.now end e c.in_ok-command.command c.in-Simple.simple (as_read c.in_ok-command.ensures.gives) c.in-Simple.is b h in
       let k = c.in_ok-counted.ensures in
       let o = other_simple (bodies_of Φ) c.in-Simple.simple c.in_default.not-Flip c.in_default.not-Call in
       let e = tree_is Φ Γ e c.in-Simple.simple s.expr_is in
-      (omega (arith, k.1, ap size e, o.0), omega (arith, k.2, ap flips e, o.1), omega (arith, k.0, k.1), s.rest_is);
+      (omega (arith, k.1, ap size e, o.0), omega (arith, k.2, ap flips e, o.1), omega (arith, k.0, k.1), s.rest_is, c.in_ok-command.ensures.gives.3);
   shorter = c.in_ok-command.ensures.shorter;
   within = omega (arith, c.in_ok-counted.ensures.1, c.in_ok-counted.ensures.2);
 }
@@ -63,7 +64,7 @@ returns-in_default t c = record {
 pub returns-then-number-below : goal.returns-then-number-below
 returns-then-number-below t c = record {
   measured = λ p Φ following Γ e end enc out well cut n b h calls.
-      let s = simple_is (length c.args.program.now) c.args.bytes.now c.in_ok-command.rest.now end e c.in_ok-command.command c.in-Simple.simple (as_read c.in_ok-command.ensures.gives) c.in-Simple.is b h in
+      let s = simple_is c.args.part.whole c.args.part.bytes.now c.in_ok-command.rest.bytes.now end e c.in_ok-command.command c.in-Simple.simple (as_read c.in_ok-command.ensures.gives) c.in-Simple.is b h in
       let k : c.in-Call.number < c.args.below = subst (CallsBelow c.args.below) (s.expr_is ∙ ap plain c.in-Call.is) calls in
       absurd (omega arith);
   shorter = tt;
@@ -72,19 +73,20 @@ returns-then-number-below t c = record {
 
 pub measure-requires : goal.measure-requires
 measure-requires t c =
-    let n : length c.part_from-body.result.now ≤ length c.args.program.now = omega (arith, ap length c.part_from-body.ensures, length-drop (get_or c.as_slice.result.now c.in-Call.number c.index-as_slice-number.result).body c.args.program.now) in
+    let n : length c.body_part-body.result.bytes.now ≤ length c.args.outline.now.program.now = omega (arith, ap length c.body_part-body.ensures.bytes, length-drop c.index-as_slice-number.result.body c.args.outline.now.program.now) in
     let k = c.in_ok-counted.ensures in
-    (omega (arith, n, c.requires.short), (n, (c.requires.short, (omega arith, omega (arith, k.1, k.2)))))
+    let few : c.args.below ≤ length (listed c.args.outline.now.functions) = c.requires.below in
+    (omega (arith, n, c.requires.short), (c.requires.short, (omega arith, omega (arith, k.1, k.2))))
 
 pub returns-in_err-with_body-in-Call : goal.returns-in_err-with_body-in-Call
 returns-in_err-with_body-in-Call t c = record {
   measured = λ p Φ following Γ e end enc out well cut n b h calls.
-      let s = simple_is (length c.args.program.now) c.args.bytes.now c.in_ok-command.rest.now end e c.in_ok-command.command c.in-Simple.simple (as_read c.in_ok-command.ensures.gives) c.in-Simple.is b h in
+      let s = simple_is c.args.part.whole c.args.part.bytes.now c.in_ok-command.rest.bytes.now end e c.in_ok-command.command c.in-Simple.simple (as_read c.in_ok-command.ensures.gives) c.in-Simple.is b h in
       let k = c.in_ok-counted.ensures in
       let tree = tree_is Φ Γ e c.in-Simple.simple s.expr_is ∙ ap (unfold_simple (bodies_of Φ)) c.in-Call.is in
-      let r = call_ready c.args.program.now c.args.outline.now p Φ following c.in-Call.number c.index-as_slice-number.result c.part_from-body.result.now enc out well cut (omega (arith, n)) (c.index-as_slice-number.is ∙ ap (λ (fs : List FunctionOutline). get_or fs c.in-Call.number c.index-as_slice-number.result) c.as_slice.ensures.items) (c.part_from-body.ensures ∙ ap (λ (o : FunctionOutline). drop o.body c.args.program.now) (sym c.index-as_slice-number.is)) in
+      let r = call_ready c.args.outline.now p Φ following c.in-Call.number c.index-as_slice-number.result c.body_part-body.result.bytes.now enc out well cut (omega (arith, n)) (c.index-as_slice-number.is ∙ ap (λ (fs : List FunctionOutline). get_or fs c.in-Call.number c.index-as_slice-number.result) c.as_slice.ensures.items) c.body_part-body.ensures.bytes in
       let m = c.in_err-with_body-in-Call.ensures.measured p r.before r.later (r.function.parameter ∷ []) r.function.body r.rest enc out well r.cut r.count r.part_is r.proper r.calls in
-      broke_measured end c.args.so_far c.from_residual-in_err-with_body-in-Call.result _ (unfold_expr Φ (bodies_of Φ) Γ e) c.from_residual-in_err-with_body-in-Call.ensures.1
+      broke_measured end c.args.part.whole c.args.so_far c.from_residual-in_err-with_body-in-Call.result _ (unfold_expr Φ (bodies_of Φ) Γ e) c.from_residual-in_err-with_body-in-Call.ensures.1
       (m.0, omega (arith, m.1, k.1, ap size tree, ap size r.tree));
   shorter = IfOk-from_err c.from_residual-in_err-with_body-in-Call.result _ c.from_residual-in_err-with_body-in-Call.ensures.0;
   within = IfOk-from_err c.from_residual-in_err-with_body-in-Call.result _ c.from_residual-in_err-with_body-in-Call.ensures.0;
@@ -93,12 +95,12 @@ returns-in_err-with_body-in-Call t c = record {
 pub returns-in_ok-with_body-in-Call : goal.returns-in_ok-with_body-in-Call
 returns-in_ok-with_body-in-Call t c = record {
   measured = λ p Φ following Γ e end enc out well cut n b h calls.
-      let s = simple_is (length c.args.program.now) c.args.bytes.now c.in_ok-command.rest.now end e c.in_ok-command.command c.in-Simple.simple (as_read c.in_ok-command.ensures.gives) c.in-Simple.is b h in
+      let s = simple_is c.args.part.whole c.args.part.bytes.now c.in_ok-command.rest.bytes.now end e c.in_ok-command.command c.in-Simple.simple (as_read c.in_ok-command.ensures.gives) c.in-Simple.is b h in
       let k = c.in_ok-counted.ensures in
       let tree = tree_is Φ Γ e c.in-Simple.simple s.expr_is ∙ ap (unfold_simple (bodies_of Φ)) c.in-Call.is in
-      let r = call_ready c.args.program.now c.args.outline.now p Φ following c.in-Call.number c.index-as_slice-number.result c.part_from-body.result.now enc out well cut (omega (arith, n)) (c.index-as_slice-number.is ∙ ap (λ (fs : List FunctionOutline). get_or fs c.in-Call.number c.index-as_slice-number.result) c.as_slice.ensures.items) (c.part_from-body.ensures ∙ ap (λ (o : FunctionOutline). drop o.body c.args.program.now) (sym c.index-as_slice-number.is)) in
+      let r = call_ready c.args.outline.now p Φ following c.in-Call.number c.index-as_slice-number.result c.body_part-body.result.bytes.now enc out well cut (omega (arith, n)) (c.index-as_slice-number.is ∙ ap (λ (fs : List FunctionOutline). get_or fs c.in-Call.number c.index-as_slice-number.result) c.as_slice.ensures.items) c.body_part-body.ensures.bytes in
       let m = c.in_ok-with_body-in-Call.ensures.measured p r.before r.later (r.function.parameter ∷ []) r.function.body r.rest enc out well r.cut r.count r.part_is r.proper r.calls in
-      (omega (arith, m.0, k.1, ap size tree, ap size r.tree), omega (arith, m.1, k.2, ap flips tree, ap flips r.tree), m.2, s.rest_is);
+      (omega (arith, m.0, k.1, ap size tree, ap size r.tree), omega (arith, m.1, k.2, ap flips tree, ap flips r.tree), m.2, s.rest_is, c.in_ok-command.ensures.gives.3);
   shorter = c.in_ok-command.ensures.shorter;
   within = c.in_ok-with_body-in-Call.ensures.within;
 }
@@ -106,10 +108,10 @@ returns-in_ok-with_body-in-Call t c = record {
 pub returns-in_err-with_first-in-If : goal.returns-in_err-with_first-in-If
 returns-in_err-with_first-in-If t c = record {
   measured = λ p Φ following Γ e end enc out well cut n b h calls.
-      let i = splits (length c.args.program.now) c.args.bytes.now c.in_ok-command.rest.now end e c.in_ok-command.command c.requires.part (as_read c.in_ok-command.ensures.gives) c.in-If.is b h in
+      let i = splits c.args.part.whole c.args.part.bytes.now c.in_ok-command.rest.bytes.now end e c.in_ok-command.command c.args.part.within (as_read c.in_ok-command.ensures.gives) c.in-If.is b h in
       let k = c.in_ok-counted.ensures in
       let m = c.in_err-with_first-in-If.ensures.measured p Φ following Γ i.first (encode_expr i.second ++ end) enc out well cut n i.rest_is i.first_proper (i.calls c.args.below calls).0 in
-      broke_measured end c.args.so_far c.from_residual-in_err-with_first-in-If.result _ (unfold_expr Φ (bodies_of Φ) Γ e) c.from_residual-in_err-with_first-in-If.ensures.1
+      broke_measured end c.args.part.whole c.args.so_far c.from_residual-in_err-with_first-in-If.result _ (unfold_expr Φ (bodies_of Φ) Γ e) c.from_residual-in_err-with_first-in-If.ensures.1
       (m.0, omega (arith, m.1, k.1, i.sizes Φ (bodies_of Φ) Γ));
   shorter = IfOk-from_err c.from_residual-in_err-with_first-in-If.result _ c.from_residual-in_err-with_first-in-If.ensures.0;
   within = IfOk-from_err c.from_residual-in_err-with_first-in-If.result _ c.from_residual-in_err-with_first-in-If.ensures.0;
@@ -118,13 +120,13 @@ returns-in_err-with_first-in-If t c = record {
 pub returns-in_ok-with_first-in-If : goal.returns-in_ok-with_first-in-If
 returns-in_ok-with_first-in-If t c = record {
   measured = λ p Φ following Γ e end enc out well cut n b h calls.
-      let i = splits (length c.args.program.now) c.args.bytes.now c.in_ok-command.rest.now end e c.in_ok-command.command c.requires.part (as_read c.in_ok-command.ensures.gives) c.in-If.is b h in
+      let i = splits c.args.part.whole c.args.part.bytes.now c.in_ok-command.rest.bytes.now end e c.in_ok-command.command c.args.part.within (as_read c.in_ok-command.ensures.gives) c.in-If.is b h in
       let k = c.in_ok-counted.ensures in
       let bodies = bodies_of Φ in
       let m = c.in_ok-with_first-in-If.ensures.measured p Φ following Γ i.first (encode_expr i.second ++ end) enc out well cut n i.rest_is i.first_proper (i.calls c.args.below calls).0 in
       let l = c.measure-in-If-2.ensures.measured p Φ following (i.scope Φ bodies Γ) i.second end enc out well cut n m.3 i.second_proper (i.calls c.args.below calls).1 in
       measured_more end c.args.so_far c.in_ok-with_first-in-If.with_first c.measure-in-If-2.result (unfold_expr Φ bodies Γ i.first) (unfold_expr Φ bodies (i.scope Φ bodies Γ) i.second) (unfold_expr Φ bodies Γ e)
-      (omega (arith, m.0, k.1)) (omega (arith, m.1, k.2)) (i.sizes Φ bodies Γ) (i.numbers Φ bodies Γ) l;
+      (m.4 ∙ c.in_ok-command.ensures.gives.3) (omega (arith, m.0, k.1)) (omega (arith, m.1, k.2)) (i.sizes Φ bodies Γ) (i.numbers Φ bodies Γ) l;
   shorter =
       IfOk-weaker c.measure-in-If-2.result _ _
       (λ x h. omega (arith, c.in_ok-with_first-in-If.ensures.shorter, c.in_ok-command.ensures.shorter))

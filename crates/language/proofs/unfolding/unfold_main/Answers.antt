@@ -1,5 +1,6 @@
-use Rattle.std.proofs.Common.{◌≡◌, ℕ, [], length, Ok, Err, sym, ap, ◌∙◌, subst, append-nil, arith, length-drop}
+use Rattle.std.proofs.Common.{◌≡◌, ℕ, [], length, Ok, Err, sym, ap, ◌∙◌, subst, append-nil, arith}
 use Rattle.language.specs.declared.fault.UnfoldFault.TheVariants.{Typing, Flips}
+use Rattle.language.specs.Grammar.{Encodes}
 use Rattle.language.specs.Unfolding.{CallsBelow}
 use Rattle.language.proofs.TypedBytes.{typed_sound}
 use Rattle.language.proofs.Lies.{main_ready}
@@ -14,10 +15,10 @@ returns-in_err-typed c =
 
 pub measure-requires : goal.measure-requires
 measure-requires c =
-    let w = c.in_ok-typed.ensures.within in
+    let t = c.in_ok-typed.ensures.exact in
+    let d = typed_sound c.args.program.now t.0 t.1 in
     record {
-      part = omega (arith, ap length c.part_from-main.ensures, length-drop c.in_ok-typed.typed.outline.main c.args.program.now);
-      short = w;
+      short = omega (arith, ap length t.2.outline_is.program_is, d.0.1.bytes);
       below = omega (arith, c.len-all.ensures.count);
       flips = omega arith;
     }
@@ -29,10 +30,11 @@ returns-in_err-figures c =
     let p = t.0.0 in
     let d = typed_sound s t.0 t.1 in
     let out = t.2.outline_is in
-    let m = main_ready s c.in_ok-typed.typed.outline p c.part_from-main.result.now d.0 out c.part_from-main.ensures in
+    let enc : Encodes c.in_ok-typed.typed.outline.program.now p = (out.program_is, d.0.1) in
+    let m = main_ready c.in_ok-typed.typed.outline p c.main_part.result.bytes.now enc out c.main_part.ensures.bytes in
     let count : length p.functions ≡ c.len-all.result = out.functions_are.1 ∙ sym c.len-all.ensures.count in
     let calls = subst (λ (k : ℕ). CallsBelow k p.main) count (typed_calls d.1.main) in
-    let f = c.in_err-figures.ensures.measured p p.functions [] [] p.main m.rest d.0 out (well_called p t.0.1 d.1) (sym (append-nil p.functions)) count m.part_is d.0.1.main_proper calls in
+    let f = c.in_err-figures.ensures.measured p p.functions [] [] p.main m.rest enc out (well_called p t.0.1 d.1) (sym (append-nil p.functions)) count m.part_is d.0.1.main_proper calls in
     unfolds_well s c.from_residual-in_err-figures.result
     (broke_unfolding c.from_residual-in_err-figures.result _ c.from_residual-in_err-figures.ensures.1
     (accepted_typed s t.1 ∙ too_large t.0 (omega (arith, f.1)) ∙ ap Err (sym f.0)))
@@ -44,10 +46,11 @@ returns-then-figures-gt-MOST_FLIPS c =
     let p = t.0.0 in
     let d = typed_sound s t.0 t.1 in
     let out = t.2.outline_is in
-    let m = main_ready s c.in_ok-typed.typed.outline p c.part_from-main.result.now d.0 out c.part_from-main.ensures in
+    let enc : Encodes c.in_ok-typed.typed.outline.program.now p = (out.program_is, d.0.1) in
+    let m = main_ready c.in_ok-typed.typed.outline p c.main_part.result.bytes.now enc out c.main_part.ensures.bytes in
     let count : length p.functions ≡ c.len-all.result = out.functions_are.1 ∙ sym c.len-all.ensures.count in
     let calls = subst (λ (k : ℕ). CallsBelow k p.main) count (typed_calls d.1.main) in
-    let f = c.in_ok-figures.ensures.measured p p.functions [] [] p.main m.rest d.0 out (well_called p t.0.1 d.1) (sym (append-nil p.functions)) count m.part_is d.0.1.main_proper calls in
+    let f = c.in_ok-figures.ensures.measured p p.functions [] [] p.main m.rest enc out (well_called p t.0.1 d.1) (sym (append-nil p.functions)) count m.part_is d.0.1.main_proper calls in
     unfolds_well s (Err Flips)
     (accepted_typed s t.1 ∙ too_many_flips t.0 (omega (arith, f.0, f.2)) (omega (arith, f.1)))
 
@@ -58,10 +61,11 @@ returns c =
     let p = t.0.0 in
     let d = typed_sound s t.0 t.1 in
     let out = t.2.outline_is in
-    let m = main_ready s c.in_ok-typed.typed.outline p c.part_from-main.result.now d.0 out c.part_from-main.ensures in
+    let enc : Encodes c.in_ok-typed.typed.outline.program.now p = (out.program_is, d.0.1) in
+    let m = main_ready c.in_ok-typed.typed.outline p c.main_part.result.bytes.now enc out c.main_part.ensures.bytes in
     let count : length p.functions ≡ c.len-all.result = out.functions_are.1 ∙ sym c.len-all.ensures.count in
     let calls = subst (λ (k : ℕ). CallsBelow k p.main) count (typed_calls d.1.main) in
-    let f = c.in_ok-figures.ensures.measured p p.functions [] [] p.main m.rest d.0 out (well_called p t.0.1 d.1) (sym (append-nil p.functions)) count m.part_is d.0.1.main_proper calls in
+    let f = c.in_ok-figures.ensures.measured p p.functions [] [] p.main m.rest enc out (well_called p t.0.1 d.1) (sym (append-nil p.functions)) count m.part_is d.0.1.main_proper calls in
     unfolds_well s (Ok _) (
       t.0,
       accepted_typed s t.1 ∙ within_limits t.0 (omega (arith, f.0, f.2)) (omega (arith, f.1)),
