@@ -4,18 +4,14 @@ use borrow.Author.Tests.{lt-leb}
 use Rattle.std.proofs.lemmas.Bool.{false≢true, leb-false}
 use Rattle.language.specs.declared.fault.TypeFault.{TypeFault}
 use Rattle.language.specs.declared.fault.UnfoldFault.{UnfoldFault}
-use Rattle.language.specs.declared.fault.UnfoldFault.TheVariants.{Typing, Size, Flips}
+use Rattle.language.specs.declared.fault.UnfoldFault.TheVariants.{Size, Flips}
 use Rattle.language.specs.declared.unfolding.Unfolded.{Unfolded}
-use Rattle.language.specs.declared.inspecting.Inspection.{Inspection}
-use Rattle.language.specs.Accepting.{Accepted, Refused, ByAllRules, Unfolds, Inspects}
+use Rattle.language.specs.Accepting.{Accepted, Refused, ByAllRules, Unfolds}
 use Rattle.language.specs.Outcomes.{and_then}
 use Rattle.language.specs.Syntax.{Ty, Program}
 use Rattle.language.specs.Unfolding.{size, flips, unfolded, from_typing, typed_of, limited, accepted_of}
-use Rattle.language.proofs.Results.{clash, ok_same, then_at, then_err}
+use Rattle.language.proofs.Results.{clash, ok_same, then_at}
 use Rattle.language.proofs.TypedBytes.{typed_sound, typed_complete}
-
-pub accepted_fault : (bytes : List ℕ) {fault : TypeFault} → typed_of bytes ≡ Err fault → accepted_of bytes ≡ Err (Typing fault)
-accepted_fault bytes e = then_err _ (ap from_typing e)
 
 pub accepted_typed : (bytes : List ℕ) {x : Program × Ty} → typed_of bytes ≡ Ok x → accepted_of bytes ≡ limited x
 accepted_typed bytes e = then_at limited (ap from_typing e)
@@ -98,15 +94,3 @@ unfolds_well bytes (Err fault) h = record { exact = h; rules = err_by_rules byte
 pub broke_unfolding : {out : Result (Program × Ty) UnfoldFault} (r : Result Unfolded UnfoldFault) (e : UnfoldFault) → IsErrAnd r (λ y. y ≡ e) → out ≡ Err e → Unfolds r out
 broke_unfolding (Ok u) e h q = absurd h
 broke_unfolding (Err fault) e h q = q ∙ ap Err (sym h)
-
--- and of an inspection
-abbrev pub InspectsWell : (bytes : List ℕ) → Result Inspection UnfoldFault → Type 0
-InspectsWell bytes r = record { exact : Inspects r (accepted_of bytes); rules : ByAllRules bytes r }
-
-pub inspects_well : (bytes : List ℕ) (r : Result Inspection UnfoldFault) → Inspects r (accepted_of bytes) → InspectsWell bytes r
-inspects_well bytes (Ok i) h = record { exact = h; rules = ok_by_rules bytes i h.0 h.1 }
-inspects_well bytes (Err fault) h = record { exact = h; rules = err_by_rules bytes fault h }
-
-pub broke_inspecting : {out : Result (Program × Ty) UnfoldFault} (r : Result Inspection UnfoldFault) (e : UnfoldFault) → IsErrAnd r (λ y. y ≡ e) → out ≡ Err e → Inspects r out
-broke_inspecting (Ok i) e h q = absurd h
-broke_inspecting (Err fault) e h q = q ∙ ap Err (sym h)

@@ -27,9 +27,6 @@ same_eq (product σ τ) (product ρ υ) h =
     let p = and_parts (same_type σ ρ) (same_type τ υ) h in
     cc (same_eq σ ρ p.0, same_eq τ υ p.1)
 
-pub same_true : {σ τ : Ty} → σ ≡ τ → same_type σ τ ≡ true
-same_true {σ} {τ} e = subst (λ (x : Ty). same_type σ x ≡ true) e (same_refl σ)
-
 -- Places of lists.
 
 pub at_from : {A : Type 0} (xs : List A) (k : ℕ) (x : A) → at xs k ≡ some x → At xs k x

@@ -13,7 +13,7 @@ use Rattle.language.specs.Syntax.{Ty, bool, product, leaves, encode_ty, operand_
 use Rattle.language.specs.Reading.{Read, operand_of, with_one, with_two, command_from, Front, done, fork, grow, tree_from, type_front, type_from, narrow_from, front_of, expr_front, expr_from, function_from, functions_from}
 use Rattle.language.proofs.Commands.{after}
 use Rattle.language.proofs.Results.{clash, ok_same, then_ok, then_at}
-use Rattle.language.proofs.Trees.{Shortens, tree_grows, tree_short, fork_both}
+use Rattle.language.proofs.Trees.{Shortens, tree_grows, fork_both}
 use Rattle.language.proofs.ReadingTypes.{type_grows}
 
 -- Operands.
@@ -176,9 +176,6 @@ expr_front_short w bytes x h =
 
 pub expr_grows : (w : ℕ) (bytes : List ℕ) → expr_from w bytes ≡ and_then (expr_front w bytes) (λ x. grow (expr_from w) x.0 x.1)
 expr_grows w bytes = tree_grows (expr_front w) w refl (expr_front_short w) bytes
-
-pub expr_short : (w : ℕ) → Shortens (expr_from w)
-expr_short w bytes = tree_short (expr_front w) w refl (expr_front_short w) (length bytes) bytes
 
 pub expr_sound : (w : ℕ) (bytes : List ℕ) (y : Expr × List ℕ) → expr_from w bytes ≡ Ok y → (bytes ≡ encode_expr y.0 ++ y.1) × Proper y.0
 expr_sound w bytes y h = tree_sound (expr_front w) w encode_expr Proper (expr_front_sound w) (length bytes) bytes y h

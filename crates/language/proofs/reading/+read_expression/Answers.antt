@@ -10,26 +10,18 @@ use Rattle.language.proofs.Encoding.{expr_grows, expr_after}
 use Rattle.language.proofs.ReadingExprs.{broke_passing, second_passed, forks, expr_forks}
 use Rattle.language.proofs.reading.+read_expression.Goals as goal
 
-pub returns-in_err-command : goal.returns-in_err-command
-returns-in_err-command t c =
-    record {
-      gives =
-          broke_passing c.args.part.whole c.from_residual.result _ c.from_residual.ensures.1
-          (expr_grows c.args.part.whole c.args.part.bytes.now ∙ then_err _ (then_err _ c.in_err-command.ensures.gives));
-      shorter = IfOk-from_err c.from_residual.result _ c.from_residual.ensures.0;
-    }
+pub returns-in_err-command-clause-gives : goal.returns-in_err-command-clause-gives
+returns-in_err-command-clause-gives t c =
+    broke_passing c.args.part.whole c.from_residual.result _ c.from_residual.ensures.1
+    (expr_grows c.args.part.whole c.args.part.bytes.now ∙ then_err _ (then_err _ c.in_err-command.ensures.gives))
 
-pub returns-in-Simple : goal.returns-in-Simple
-returns-in-Simple t c =
-    record {
-      gives = (
-        plain c.in-Simple.field-0,
-        expr_after c.args.part.whole c.args.part.bytes.now (as_read c.in_ok-command.ensures.gives)
-            ∙ ap (λ (k : Command). grow (expr_from c.args.part.whole) (front_of k) c.in_ok-command.rest.bytes.now) c.in-Simple.is,
-        c.in_ok-command.ensures.gives.3,
-      );
-      shorter = c.in_ok-command.ensures.shorter;
-    }
+pub returns-in-Simple-clause-gives : goal.returns-in-Simple-clause-gives
+returns-in-Simple-clause-gives t c = (
+  plain c.in-Simple.field-0,
+  expr_after c.args.part.whole c.args.part.bytes.now (as_read c.in_ok-command.ensures.gives)
+      ∙ ap (λ (k : Command). grow (expr_from c.args.part.whole) (front_of k) c.in_ok-command.rest.bytes.now) c.in-Simple.is,
+  c.in_ok-command.ensures.gives.3,
+)
 
 pub returns-in_err-rest-in-If : goal.returns-in_err-rest-in-If
 returns-in_err-rest-in-If t c =

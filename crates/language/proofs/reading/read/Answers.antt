@@ -1,5 +1,5 @@
 use Rattle.std.proofs.Common.{◌≡◌, ℕ, ◌-◌, ◌<◌, ◌≤◌, List, length, get_or, drop, Ok, Err, sym, ap, ◌∙◌, arith, length-append, rules}
-use Rattle.language.specs.declared.fault.ReadFault.TheVariants.{TooLong, Ends, Unknown, Trailing}
+use Rattle.language.specs.declared.fault.ReadFault.TheVariants.{Trailing}
 use Rattle.std.proofs.lemmas.List.{take_rest}
 use Rattle.language.specs.Syntax.{Function, Program, encode_functions}
 use Rattle.language.specs.Reading.{Read, expr_from, functions_from, main_from, tree_of}
@@ -69,12 +69,3 @@ returns c =
         main_is = omega (arith, ap length f.0, length-append (encode_functions fs.0) c.in_ok-functions.rest.bytes.now, length_after 1 s, some, c.place-main.ensures, n);
       },
     )
-
-pub returns-then-program-gt-MOST_BYTES : goal.returns-then-program-gt-MOST_BYTES
-returns-then-program-gt-MOST_BYTES c = reads_well c.args.program.now (Err TooLong) (search rules)
-
-pub returns-in_default : goal.returns-in_default
-returns-in_default c = reads_well c.args.program.now (Err (Ends (length c.args.program.now))) (search rules)
-
-pub returns-then-count-gt-MOST_FUNCTIONS : goal.returns-then-count-gt-MOST_FUNCTIONS
-returns-then-count-gt-MOST_FUNCTIONS c = reads_well c.args.program.now (Err (Unknown 0)) (search rules)

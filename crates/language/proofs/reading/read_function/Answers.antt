@@ -20,8 +20,8 @@ returns-in_err-rest-clause-gives c =
     ∙ then_at _ (at_whole (λ v. narrow_from v c.in_ok-parameter.rest.bytes.now) p.3 q.2)
     ∙ then_err _ (at_whole (λ v. expr_from v c.in_ok-result.rest.bytes.now) (q.3 ∙ p.3) c.in_err-rest.ensures.gives))
 
-pub returns : goal.returns
-returns c =
+pub returns-clause-gives : goal.returns-clause-gives
+returns-clause-gives c =
     let w = c.args.part.whole in
     let s = c.args.part.bytes.now in
     let p = c.in_ok-parameter.ensures.gives in
@@ -31,17 +31,13 @@ returns c =
     let s'' = c.in_ok-result.rest.bytes.now in
     let result = at_whole (λ v. narrow_from v s') p.3 q.2 in
     let first = type_sound w s (p.0, s') (narrow_ok w s p.2).0 in
-    let second = type_sound w s' (q.0, s'') (narrow_ok w s' result).0 in
-    record {
-      gives = (
-        record { parameter = p.0; result = q.0; body = e.0 },
-        record {
-          parameter_code = p.1;
-          result_code = q.1;
-          body_is_at = omega (arith, c.place-body.ensures, q.3, p.3, ap length first, ap length second, length-append (encode_ty p.0) s', length-append (encode_ty q.0) s'');
-        },
-        function_parts w s p.2 result (at_whole (λ v. expr_from v s'') (q.3 ∙ p.3) e.1),
-        e.2 ∙ q.3 ∙ p.3,
-      );
-      shorter = omega (arith, c.in_ok-parameter.ensures.shorter, c.in_ok-result.ensures.shorter, c.in_ok-rest.ensures.shorter);
-    }
+    let second = type_sound w s' (q.0, s'') (narrow_ok w s' result).0 in (
+      record { parameter = p.0; result = q.0; body = e.0 },
+      record {
+        parameter_code = p.1;
+        result_code = q.1;
+        body_is_at = omega (arith, c.place-body.ensures, q.3, p.3, ap length first, ap length second, length-append (encode_ty p.0) s', length-append (encode_ty q.0) s'');
+      },
+      function_parts w s p.2 result (at_whole (λ v. expr_from v s'') (q.3 ∙ p.3) e.1),
+      e.2 ∙ q.3 ∙ p.3,
+    )

@@ -1,6 +1,5 @@
 use Rattle.std.proofs.Common.{◌≡◌, ℕ, List, suc, ◌+◌, ◌-◌, [], ◌∷◌, ◌++◌, length, sym, refl, ap, ◌∙◌, subst, arith, length-append}
 use native.Mathlib.Nat.{sub-zero}
-use Rattle.std.proofs.lemmas.Result.{IfOk-from_err}
 use Rattle.std.proofs.lemmas.List.{length_push}
 use Rattle.bounded.specs.Listed.{listed}
 use Rattle.language.specs.declared.reading.FunctionOutline.{FunctionOutline}
@@ -15,18 +14,14 @@ use Rattle.language.proofs.reading.read_functions.Goals as goal
 pub loop-i-init : goal.loop-i-init
 loop-i-init c = ([], refl, no_functions_outlined c.no_functions-functions.ensures, to_come_first c.args.part.whole c.args.count c.args.part.bytes.now ∙ ap (λ (k : ℕ). to_come c.args.part.whole [] k c.args.part.bytes.now) (sym (sub-zero c.args.count)), omega arith, refl)
 
-pub returns-in_err-function : goal.returns-in_err-function
-returns-in_err-function c =
+pub returns-in_err-function-clause-gives : goal.returns-in_err-function-clause-gives
+returns-in_err-function-clause-gives c =
     let w = c.args.part.whole in
     let rest = c.loop-i.rest.bytes.now in
     let inv = c.loop-i.invariant in
     let m : c.args.count - c.loop-i._i ≡ suc (c.args.count - c.loop-i._i - 1) = omega arith in
-    record {
-      gives =
-          broke Functions w c.from_residual.result _ c.from_residual.ensures.1
-          (inv.3 ∙ ap (λ (k : ℕ). to_come w inv.0 k rest) m ∙ to_come_fault w (c.args.count - c.loop-i._i - 1) rest inv.0 (at_whole (λ v. function_from v rest) inv.5 c.in_err-function.ensures.gives));
-      shorter = IfOk-from_err c.from_residual.result _ c.from_residual.ensures.0;
-    }
+    broke Functions w c.from_residual.result _ c.from_residual.ensures.1
+    (inv.3 ∙ ap (λ (k : ℕ). to_come w inv.0 k rest) m ∙ to_come_fault w (c.args.count - c.loop-i._i - 1) rest inv.0 (at_whole (λ v. function_from v rest) inv.5 c.in_err-function.ensures.gives))
 
 pub loop-i-preserved : goal.loop-i-preserved
 loop-i-preserved c =
@@ -50,16 +45,12 @@ loop-i-preserved c =
       g.3 ∙ inv.5,
     )
 
-pub returns : goal.returns
-returns c =
+pub returns-clause-gives : goal.returns-clause-gives
+returns-clause-gives c =
     let inv = c.loop-i.invariant in
-    let none : c.args.count - c.loop-i._i ≡ 0 = omega arith in
-    record {
-      gives = (
-        inv.0,
-        inv.2,
-        inv.3 ∙ ap (λ (k : ℕ). to_come c.args.part.whole inv.0 k c.loop-i.rest.bytes.now) none ∙ to_come_none c.args.part.whole c.loop-i.rest.bytes.now inv.0,
-        inv.5,
-      );
-      shorter = omega (arith, inv.4);
-    }
+    let none : c.args.count - c.loop-i._i ≡ 0 = omega arith in (
+      inv.0,
+      inv.2,
+      inv.3 ∙ ap (λ (k : ℕ). to_come c.args.part.whole inv.0 k c.loop-i.rest.bytes.now) none ∙ to_come_none c.args.part.whole c.loop-i.rest.bytes.now inv.0,
+      inv.5,
+    )

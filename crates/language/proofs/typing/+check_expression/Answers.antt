@@ -1,6 +1,5 @@
 use Rattle.std.proofs.Common.{◌+◌, ◌≡◌, ℕ, ◌-◌, ◌≤◌, true, false, List, [], ◌∷◌, ◌++◌, length, Ok, sym, ap, ◌∙◌, subst, arith, not}
 use Rattle.bounded.specs.Listed.{listed}
-use Rattle.std.proofs.lemmas.Result.{IfOk-from_err, IfOk-weaker}
 use Rattle.language.specs.declared.types.TypeCode.{TypeCode}
 use Rattle.language.specs.declared.command.Operand.{Operand}
 use Rattle.language.specs.declared.command.Command.{Command}
@@ -15,11 +14,9 @@ use Rattle.language.proofs.CheckSteps.{same_coded, full_scope, room_in_scope, sc
 use Rattle.language.proofs.CheckExprs.{broke_past, past_same, check_plain, guard_fault, first_arm_fault, second_arm_fault, arms_agree, first_part_fault, names_over, second_part}
 use Rattle.language.proofs.typing.+check_expression.Goals as goal
 
-pub returns-in_err-command : goal.returns-in_err-command
-returns-in_err-command t c = record {
-  types = λ Φ Γ e end call coded b h. absurd (head_there c.args.part.whole c.args.part.bytes.now end e b h c.in_err-command.ensures.gives);
-  shorter = IfOk-from_err c.from_residual.result _ c.from_residual.ensures.0;
-}
+pub returns-in_err-command-clause-types : goal.returns-in_err-command-clause-types
+returns-in_err-command-clause-types t c =
+    λ Φ Γ e end call coded b h. absurd (head_there c.args.part.whole c.args.part.bytes.now end e b h c.in_err-command.ensures.gives)
 
 -- the command that was read
 command_is : {out : Read Command} {rest : List ℕ} {x k : Command} → out ≡ Ok (x, rest) → x ≡ k → out ≡ Ok (k, rest)
@@ -29,28 +26,24 @@ command_is {rest = rest} e i = e ∙ ap (λ (y : Command). Ok (y, rest)) i
 seen : (Φ : List Function) (Γ : List Ty) {e e' : Expr} {p q : ℕ} {out : Checked Ty} → e ≡ e' → p ≡ q → check Φ Γ p e' ≡ out → check Φ Γ q e ≡ out
 seen Φ Γ {e} {p = p} i n h = ap (λ (k : ℕ). check Φ Γ k e) (sym n) ∙ ap (check Φ Γ p) i ∙ h
 
-pub returns-in_err-found-in-Simple : goal.returns-in_err-found-in-Simple
-returns-in_err-found-in-Simple t c = record {
-  types = λ Φ Γ e end call coded b h.
-      let s = simple_at c.args.part.whole c.args.part.bytes.now c.in_ok-command.rest.bytes.now end e c.in-Simple.simple (command_is (as_read c.in_ok-command.ensures.gives) c.in-Simple.is) b h in
-      let p = c.place-place.result in
-      let place = c.place-place.ensures in
-      let whole = c.in_ok-command.ensures.gives.3 in
-      broke_past end c.args.part.whole c.from_residual-in_err-found-in-Simple.result _ c.from_residual-in_err-found-in-Simple.ensures.1
-      (seen Φ Γ s.expr_is place (check_plain Φ Γ p c.in-Simple.simple ∙ c.in_err-found-in-Simple.ensures Φ Γ call coded));
-  shorter = IfOk-from_err c.from_residual-in_err-found-in-Simple.result _ c.from_residual-in_err-found-in-Simple.ensures.0;
-}
+pub returns-in_err-found-in-Simple-clause-types : goal.returns-in_err-found-in-Simple-clause-types
+returns-in_err-found-in-Simple-clause-types t c =
+    λ Φ Γ e end call coded b h.
+    let s = simple_at c.args.part.whole c.args.part.bytes.now c.in_ok-command.rest.bytes.now end e c.in-Simple.simple (command_is (as_read c.in_ok-command.ensures.gives) c.in-Simple.is) b h in
+    let p = c.place-place.result in
+    let place = c.place-place.ensures in
+    let whole = c.in_ok-command.ensures.gives.3 in
+    broke_past end c.args.part.whole c.from_residual-in_err-found-in-Simple.result _ c.from_residual-in_err-found-in-Simple.ensures.1
+    (seen Φ Γ s.expr_is place (check_plain Φ Γ p c.in-Simple.simple ∙ c.in_err-found-in-Simple.ensures Φ Γ call coded))
 
-pub returns-in_ok-found-in-Simple : goal.returns-in_ok-found-in-Simple
-returns-in_ok-found-in-Simple t c = record {
-  types = λ Φ Γ e end call coded b h.
-      let s = simple_at c.args.part.whole c.args.part.bytes.now c.in_ok-command.rest.bytes.now end e c.in-Simple.simple (command_is (as_read c.in_ok-command.ensures.gives) c.in-Simple.is) b h in
-      let p = c.place-place.result in
-      let place = c.place-place.ensures in
-      let f = c.in_ok-found-in-Simple.ensures Φ Γ call coded in
-      (f.0, f.1, seen Φ Γ s.expr_is place (check_plain Φ Γ p c.in-Simple.simple ∙ f.2), s.rest_is, c.in_ok-command.ensures.gives.3);
-  shorter = c.in_ok-command.ensures.shorter;
-}
+pub returns-in_ok-found-in-Simple-clause-types : goal.returns-in_ok-found-in-Simple-clause-types
+returns-in_ok-found-in-Simple-clause-types t c =
+    λ Φ Γ e end call coded b h.
+    let s = simple_at c.args.part.whole c.args.part.bytes.now c.in_ok-command.rest.bytes.now end e c.in-Simple.simple (command_is (as_read c.in_ok-command.ensures.gives) c.in-Simple.is) b h in
+    let p = c.place-place.result in
+    let place = c.place-place.ensures in
+    let f = c.in_ok-found-in-Simple.ensures Φ Γ call coded in
+    (f.0, f.1, seen Φ Γ s.expr_is place (check_plain Φ Γ p c.in-Simple.simple ∙ f.2), s.rest_is, c.in_ok-command.ensures.gives.3)
 
 -- the two arms, and the two parts of a let
 arms : (w : ℕ) (bytes rest end : List ℕ) (e : Expr) (x : Command) (a : Operand) → length bytes ≤ w → command_from w bytes ≡ Ok (x, rest) → x ≡ commands.If a → bytes ≡ encode_expr e ++ end → Proper e → PartsAt (branch a) 2 w bytes rest end e
@@ -70,123 +63,104 @@ second_at i n m rest' b = omega (arith, i.second_place rest' b)
 moved : (Φ : List Function) (Γ : List Ty) (e : Expr) {p q : ℕ} {out : Checked Ty} → check Φ Γ p e ≡ out → p ≡ q → check Φ Γ q e ≡ out
 moved Φ Γ e h i = ap (λ (n : ℕ). check Φ Γ n e) (sym i) ∙ h
 
-pub returns-in_err-check_bool-in-If : goal.returns-in_err-check_bool-in-If
-returns-in_err-check_bool-in-If t c = record {
-  types = λ Φ Γ e end call coded b h.
-      let i = arms c.args.part.whole c.args.part.bytes.now c.in_ok-command.rest.bytes.now end e c.in_ok-command.command c.in-If.guard c.args.part.within (as_read c.in_ok-command.ensures.gives) c.in-If.is b h in
-      let p = c.place-place.result in
-      let place = c.place-place.ensures in
-      let whole = c.in_ok-command.ensures.gives.3 in
-      broke_past end c.args.part.whole c.from_residual-in_err-check_bool-in-If.result _ c.from_residual-in_err-check_bool-in-If.ensures.1
-      (seen Φ Γ i.expr_is place (guard_fault Φ Γ p c.in-If.guard i.first i.second (sym (c.in_err-check_bool-in-If.ensures Γ coded))));
-  shorter = IfOk-from_err c.from_residual-in_err-check_bool-in-If.result _ c.from_residual-in_err-check_bool-in-If.ensures.0;
-}
+pub returns-in_err-check_bool-in-If-clause-types : goal.returns-in_err-check_bool-in-If-clause-types
+returns-in_err-check_bool-in-If-clause-types t c =
+    λ Φ Γ e end call coded b h.
+    let i = arms c.args.part.whole c.args.part.bytes.now c.in_ok-command.rest.bytes.now end e c.in_ok-command.command c.in-If.guard c.args.part.within (as_read c.in_ok-command.ensures.gives) c.in-If.is b h in
+    let p = c.place-place.result in
+    let place = c.place-place.ensures in
+    let whole = c.in_ok-command.ensures.gives.3 in
+    broke_past end c.args.part.whole c.from_residual-in_err-check_bool-in-If.result _ c.from_residual-in_err-check_bool-in-If.ensures.1
+    (seen Φ Γ i.expr_is place (guard_fault Φ Γ p c.in-If.guard i.first i.second (sym (c.in_err-check_bool-in-If.ensures Γ coded))))
 
-pub returns-in_err-first-in-If : goal.returns-in_err-first-in-If
-returns-in_err-first-in-If t c = record {
-  types = λ Φ Γ e end call coded b h.
-      let i = arms c.args.part.whole c.args.part.bytes.now c.in_ok-command.rest.bytes.now end e c.in_ok-command.command c.in-If.guard c.args.part.within (as_read c.in_ok-command.ensures.gives) c.in-If.is b h in
-      let p = c.place-place.result in
-      let place = c.place-place.ensures in
-      let whole = c.in_ok-command.ensures.gives.3 in
-      broke_past end c.args.part.whole c.from_residual-in_err-first-in-If.result _ c.from_residual-in_err-first-in-If.ensures.1
-      (seen Φ Γ i.expr_is place (first_arm_fault Φ Γ p c.in-If.guard i.first i.second (sym (c.in_ok-check_bool-in-If.ensures Γ coded))
-      (moved Φ Γ i.first (c.in_err-first-in-If.ensures.types Φ Γ i.first (encode_expr i.second ++ end) call coded i.rest_is i.first_proper) (first_at i place whole))));
-  shorter = IfOk-from_err c.from_residual-in_err-first-in-If.result _ c.from_residual-in_err-first-in-If.ensures.0;
-}
+pub returns-in_err-first-in-If-clause-types : goal.returns-in_err-first-in-If-clause-types
+returns-in_err-first-in-If-clause-types t c =
+    λ Φ Γ e end call coded b h.
+    let i = arms c.args.part.whole c.args.part.bytes.now c.in_ok-command.rest.bytes.now end e c.in_ok-command.command c.in-If.guard c.args.part.within (as_read c.in_ok-command.ensures.gives) c.in-If.is b h in
+    let p = c.place-place.result in
+    let place = c.place-place.ensures in
+    let whole = c.in_ok-command.ensures.gives.3 in
+    broke_past end c.args.part.whole c.from_residual-in_err-first-in-If.result _ c.from_residual-in_err-first-in-If.ensures.1
+    (seen Φ Γ i.expr_is place (first_arm_fault Φ Γ p c.in-If.guard i.first i.second (sym (c.in_ok-check_bool-in-If.ensures Γ coded))
+    (moved Φ Γ i.first (c.in_err-first-in-If.ensures.types Φ Γ i.first (encode_expr i.second ++ end) call coded i.rest_is i.first_proper) (first_at i place whole))))
 
-pub returns-in_err-second-in-If : goal.returns-in_err-second-in-If
-returns-in_err-second-in-If t c = record {
-  types = λ Φ Γ e end call coded b h.
-      let i = arms c.args.part.whole c.args.part.bytes.now c.in_ok-command.rest.bytes.now end e c.in_ok-command.command c.in-If.guard c.args.part.within (as_read c.in_ok-command.ensures.gives) c.in-If.is b h in
-      let p = c.place-place.result in
-      let place = c.place-place.ensures in
-      let whole = c.in_ok-command.ensures.gives.3 in
-      let f = c.in_ok-first-in-If.ensures.types Φ Γ i.first (encode_expr i.second ++ end) call coded i.rest_is i.first_proper in
-      broke_past end c.args.part.whole c.from_residual-in_err-second-in-If.result _ c.from_residual-in_err-second-in-If.ensures.1
-      (seen Φ Γ i.expr_is place (second_arm_fault Φ Γ p c.in-If.guard i.first i.second (sym (c.in_ok-check_bool-in-If.ensures Γ coded))
-      (moved Φ Γ i.first f.2 (first_at i place whole))
-      (moved Φ Γ i.second (c.in_err-second-in-If.ensures.types Φ Γ i.second end call coded f.3 i.second_proper) (second_at i place (f.4 ∙ whole) c.in_ok-first-in-If.rest.bytes.now f.3))));
-  shorter = IfOk-from_err c.from_residual-in_err-second-in-If.result _ c.from_residual-in_err-second-in-If.ensures.0;
-}
+pub returns-in_err-second-in-If-clause-types : goal.returns-in_err-second-in-If-clause-types
+returns-in_err-second-in-If-clause-types t c =
+    λ Φ Γ e end call coded b h.
+    let i = arms c.args.part.whole c.args.part.bytes.now c.in_ok-command.rest.bytes.now end e c.in_ok-command.command c.in-If.guard c.args.part.within (as_read c.in_ok-command.ensures.gives) c.in-If.is b h in
+    let p = c.place-place.result in
+    let place = c.place-place.ensures in
+    let whole = c.in_ok-command.ensures.gives.3 in
+    let f = c.in_ok-first-in-If.ensures.types Φ Γ i.first (encode_expr i.second ++ end) call coded i.rest_is i.first_proper in
+    broke_past end c.args.part.whole c.from_residual-in_err-second-in-If.result _ c.from_residual-in_err-second-in-If.ensures.1
+    (seen Φ Γ i.expr_is place (second_arm_fault Φ Γ p c.in-If.guard i.first i.second (sym (c.in_ok-check_bool-in-If.ensures Γ coded))
+    (moved Φ Γ i.first f.2 (first_at i place whole))
+    (moved Φ Γ i.second (c.in_err-second-in-If.ensures.types Φ Γ i.second end call coded f.3 i.second_proper) (second_at i place (f.4 ∙ whole) c.in_ok-first-in-If.rest.bytes.now f.3))))
 
-pub returns-then-ne : goal.returns-then-ne
-returns-then-ne t c = record {
-  types = λ Φ Γ e end call coded b h.
-      let i = arms c.args.part.whole c.args.part.bytes.now c.in_ok-command.rest.bytes.now end e c.in_ok-command.command c.in-If.guard c.args.part.within (as_read c.in_ok-command.ensures.gives) c.in-If.is b h in
-      let p = c.place-place.result in
-      let place = c.place-place.ensures in
-      let whole = c.in_ok-command.ensures.gives.3 in
-      let f = c.in_ok-first-in-If.ensures.types Φ Γ i.first (encode_expr i.second ++ end) call coded i.rest_is i.first_proper in
-      let s = c.in_ok-second-in-If.ensures.types Φ Γ i.second end call coded f.3 i.second_proper in
-      seen Φ Γ i.expr_is place (arms_agree Φ Γ p c.in-If.guard i.first i.second false (sym (c.in_ok-check_bool-in-If.ensures Γ coded))
-      (moved Φ Γ i.first f.2 (first_at i place whole))
-      (moved Φ Γ i.second s.2 (second_at i place (f.4 ∙ whole) c.in_ok-first-in-If.rest.bytes.now f.3))
-      (same_coded c.in_ok-first-in-If.first c.in_ok-second-in-If.second f.0 s.0 c.ne.result f.1 s.1 c.ne.ensures ∙ ap not c.if-ne.true));
-  shorter = tt;
-}
+pub returns-then-ne-clause-types : goal.returns-then-ne-clause-types
+returns-then-ne-clause-types t c =
+    λ Φ Γ e end call coded b h.
+    let i = arms c.args.part.whole c.args.part.bytes.now c.in_ok-command.rest.bytes.now end e c.in_ok-command.command c.in-If.guard c.args.part.within (as_read c.in_ok-command.ensures.gives) c.in-If.is b h in
+    let p = c.place-place.result in
+    let place = c.place-place.ensures in
+    let whole = c.in_ok-command.ensures.gives.3 in
+    let f = c.in_ok-first-in-If.ensures.types Φ Γ i.first (encode_expr i.second ++ end) call coded i.rest_is i.first_proper in
+    let s = c.in_ok-second-in-If.ensures.types Φ Γ i.second end call coded f.3 i.second_proper in
+    seen Φ Γ i.expr_is place (arms_agree Φ Γ p c.in-If.guard i.first i.second false (sym (c.in_ok-check_bool-in-If.ensures Γ coded))
+    (moved Φ Γ i.first f.2 (first_at i place whole))
+    (moved Φ Γ i.second s.2 (second_at i place (f.4 ∙ whole) c.in_ok-first-in-If.rest.bytes.now f.3))
+    (same_coded c.in_ok-first-in-If.first c.in_ok-second-in-If.second f.0 s.0 c.ne.result f.1 s.1 c.ne.ensures ∙ ap not c.if-ne.true))
 
-pub returns-else-ne : goal.returns-else-ne
-returns-else-ne t c = record {
-  types = λ Φ Γ e end call coded b h.
-      let i = arms c.args.part.whole c.args.part.bytes.now c.in_ok-command.rest.bytes.now end e c.in_ok-command.command c.in-If.guard c.args.part.within (as_read c.in_ok-command.ensures.gives) c.in-If.is b h in
-      let p = c.place-place.result in
-      let place = c.place-place.ensures in
-      let whole = c.in_ok-command.ensures.gives.3 in
-      let f = c.in_ok-first-in-If.ensures.types Φ Γ i.first (encode_expr i.second ++ end) call coded i.rest_is i.first_proper in
-      let s = c.in_ok-second-in-If.ensures.types Φ Γ i.second end call coded f.3 i.second_proper in (
-        s.0,
-        s.1,
-        seen Φ Γ i.expr_is place (arms_agree Φ Γ p c.in-If.guard i.first i.second true (sym (c.in_ok-check_bool-in-If.ensures Γ coded))
-            (moved Φ Γ i.first f.2 (first_at i place whole))
-            (moved Φ Γ i.second s.2 (second_at i place (f.4 ∙ whole) c.in_ok-first-in-If.rest.bytes.now f.3))
-            (same_coded c.in_ok-first-in-If.first c.in_ok-second-in-If.second f.0 s.0 c.ne.result f.1 s.1 c.ne.ensures ∙ ap not c.if-ne.false)),
-        s.3,
-        s.4 ∙ f.4 ∙ whole,
-      );
-  shorter = omega (arith, c.in_ok-second-in-If.ensures.shorter, c.in_ok-first-in-If.ensures.shorter, c.in_ok-command.ensures.shorter);
-}
+pub returns-else-ne-clause-types : goal.returns-else-ne-clause-types
+returns-else-ne-clause-types t c =
+    λ Φ Γ e end call coded b h.
+    let i = arms c.args.part.whole c.args.part.bytes.now c.in_ok-command.rest.bytes.now end e c.in_ok-command.command c.in-If.guard c.args.part.within (as_read c.in_ok-command.ensures.gives) c.in-If.is b h in
+    let p = c.place-place.result in
+    let place = c.place-place.ensures in
+    let whole = c.in_ok-command.ensures.gives.3 in
+    let f = c.in_ok-first-in-If.ensures.types Φ Γ i.first (encode_expr i.second ++ end) call coded i.rest_is i.first_proper in
+    let s = c.in_ok-second-in-If.ensures.types Φ Γ i.second end call coded f.3 i.second_proper in (
+      s.0,
+      s.1,
+      seen Φ Γ i.expr_is place (arms_agree Φ Γ p c.in-If.guard i.first i.second true (sym (c.in_ok-check_bool-in-If.ensures Γ coded))
+          (moved Φ Γ i.first f.2 (first_at i place whole))
+          (moved Φ Γ i.second s.2 (second_at i place (f.4 ∙ whole) c.in_ok-first-in-If.rest.bytes.now f.3))
+          (same_coded c.in_ok-first-in-If.first c.in_ok-second-in-If.second f.0 s.0 c.ne.result f.1 s.1 c.ne.ensures ∙ ap not c.if-ne.false)),
+      s.3,
+      s.4 ∙ f.4 ∙ whole,
+    )
 
-pub returns-in_err-bound-in-Let : goal.returns-in_err-bound-in-Let
-returns-in_err-bound-in-Let t c = record {
-  types = λ Φ Γ e end call coded b h.
-      let i = parts c.args.part.whole c.args.part.bytes.now c.in_ok-command.rest.bytes.now end e c.in_ok-command.command c.args.part.within (as_read c.in_ok-command.ensures.gives) c.in-Let.is b h in
-      let p = c.place-place.result in
-      let place = c.place-place.ensures in
-      let whole = c.in_ok-command.ensures.gives.3 in
-      broke_past end c.args.part.whole c.from_residual-in_err-bound-in-Let.result _ c.from_residual-in_err-bound-in-Let.ensures.1
-      (seen Φ Γ i.expr_is place (first_part_fault Φ Γ p i.first i.second
-      (moved Φ Γ i.first (c.in_err-bound-in-Let.ensures.types Φ Γ i.first (encode_expr i.second ++ end) call coded i.rest_is i.first_proper) (first_at i place whole))));
-  shorter = IfOk-from_err c.from_residual-in_err-bound-in-Let.result _ c.from_residual-in_err-bound-in-Let.ensures.0;
-}
+pub returns-in_err-bound-in-Let-clause-types : goal.returns-in_err-bound-in-Let-clause-types
+returns-in_err-bound-in-Let-clause-types t c =
+    λ Φ Γ e end call coded b h.
+    let i = parts c.args.part.whole c.args.part.bytes.now c.in_ok-command.rest.bytes.now end e c.in_ok-command.command c.args.part.within (as_read c.in_ok-command.ensures.gives) c.in-Let.is b h in
+    let p = c.place-place.result in
+    let place = c.place-place.ensures in
+    let whole = c.in_ok-command.ensures.gives.3 in
+    broke_past end c.args.part.whole c.from_residual-in_err-bound-in-Let.result _ c.from_residual-in_err-bound-in-Let.ensures.1
+    (seen Φ Γ i.expr_is place (first_part_fault Φ Γ p i.first i.second
+    (moved Φ Γ i.first (c.in_err-bound-in-Let.ensures.types Φ Γ i.first (encode_expr i.second ++ end) call coded i.rest_is i.first_proper) (first_at i place whole))))
 
-pub returns-then-is_full : goal.returns-then-is_full
-returns-then-is_full t c = record {
-  types = λ Φ Γ e end call coded b h.
-      let i = parts c.args.part.whole c.args.part.bytes.now c.in_ok-command.rest.bytes.now end e c.in_ok-command.command c.args.part.within (as_read c.in_ok-command.ensures.gives) c.in-Let.is b h in
-      let p = c.place-place.result in
-      let place = c.place-place.ensures in
-      let whole = c.in_ok-command.ensures.gives.3 in
-      let f = c.in_ok-bound-in-Let.ensures.types Φ Γ i.first (encode_expr i.second ++ end) call coded i.rest_is i.first_proper in
-      seen Φ Γ i.expr_is place (names_over Φ Γ p i.first i.second (moved Φ Γ i.first f.2 (first_at i place whole)) (full_scope c.args.scope.now Γ coded (sym c.is_full.ensures ∙ c.if-is_full.true)));
-  shorter = tt;
-}
+pub returns-then-is_full-clause-types : goal.returns-then-is_full-clause-types
+returns-then-is_full-clause-types t c =
+    λ Φ Γ e end call coded b h.
+    let i = parts c.args.part.whole c.args.part.bytes.now c.in_ok-command.rest.bytes.now end e c.in_ok-command.command c.args.part.within (as_read c.in_ok-command.ensures.gives) c.in-Let.is b h in
+    let p = c.place-place.result in
+    let place = c.place-place.ensures in
+    let whole = c.in_ok-command.ensures.gives.3 in
+    let f = c.in_ok-bound-in-Let.ensures.types Φ Γ i.first (encode_expr i.second ++ end) call coded i.rest_is i.first_proper in
+    seen Φ Γ i.expr_is place (names_over Φ Γ p i.first i.second (moved Φ Γ i.first f.2 (first_at i place whole)) (full_scope c.args.scope.now Γ coded (sym c.is_full.ensures ∙ c.if-is_full.true)))
 
-pub returns-else-is_full : goal.returns-else-is_full
-returns-else-is_full t c = record {
-  types = λ Φ Γ e end call coded b h.
-      let i = parts c.args.part.whole c.args.part.bytes.now c.in_ok-command.rest.bytes.now end e c.in_ok-command.command c.args.part.within (as_read c.in_ok-command.ensures.gives) c.in-Let.is b h in
-      let p = c.place-place.result in
-      let place = c.place-place.ensures in
-      let whole = c.in_ok-command.ensures.gives.3 in
-      let f = c.in_ok-bound-in-Let.ensures.types Φ Γ i.first (encode_expr i.second ++ end) call coded i.rest_is i.first_proper in
-      let inner = subst (λ (ts : List TypeCode). AllCoded ts (Γ ++ (f.0 ∷ []))) (sym c.push.ensures) (scope_more (listed c.args.scope.now) Γ c.in_ok-bound-in-Let.bound f.0 coded f.1) in
-      past_same end c.check_expression-in-Let-2.result (f.4 ∙ whole)
-      (seen Φ Γ i.expr_is place (second_part Φ Γ p i.first i.second (moved Φ Γ i.first f.2 (first_at i place whole)) (room_in_scope c.args.scope.now Γ coded (sym c.is_full.ensures ∙ c.if-is_full.false))
-      ∙ ap (λ (k : ℕ). check Φ (Γ ++ (f.0 ∷ [])) k i.second) (sym (second_at i place (f.4 ∙ whole) c.in_ok-bound-in-Let.rest.bytes.now f.3))))
-      (c.check_expression-in-Let-2.ensures.types Φ (Γ ++ (f.0 ∷ [])) i.second end call inner f.3 i.second_proper);
-  shorter =
-      IfOk-weaker c.check_expression-in-Let-2.result _ _
-      (λ x k. omega (arith, c.in_ok-bound-in-Let.ensures.shorter, c.in_ok-command.ensures.shorter))
-      c.check_expression-in-Let-2.ensures.shorter;
-}
+pub returns-else-is_full-clause-types : goal.returns-else-is_full-clause-types
+returns-else-is_full-clause-types t c =
+    λ Φ Γ e end call coded b h.
+    let i = parts c.args.part.whole c.args.part.bytes.now c.in_ok-command.rest.bytes.now end e c.in_ok-command.command c.args.part.within (as_read c.in_ok-command.ensures.gives) c.in-Let.is b h in
+    let p = c.place-place.result in
+    let place = c.place-place.ensures in
+    let whole = c.in_ok-command.ensures.gives.3 in
+    let f = c.in_ok-bound-in-Let.ensures.types Φ Γ i.first (encode_expr i.second ++ end) call coded i.rest_is i.first_proper in
+    let inner = subst (λ (ts : List TypeCode). AllCoded ts (Γ ++ (f.0 ∷ []))) (sym c.push.ensures) (scope_more (listed c.args.scope.now) Γ c.in_ok-bound-in-Let.bound f.0 coded f.1) in
+    past_same end c.check_expression-in-Let-2.result (f.4 ∙ whole)
+    (seen Φ Γ i.expr_is place (second_part Φ Γ p i.first i.second (moved Φ Γ i.first f.2 (first_at i place whole)) (room_in_scope c.args.scope.now Γ coded (sym c.is_full.ensures ∙ c.if-is_full.false))
+    ∙ ap (λ (k : ℕ). check Φ (Γ ++ (f.0 ∷ [])) k i.second) (sym (second_at i place (f.4 ∙ whole) c.in_ok-bound-in-Let.rest.bytes.now f.3))))
+    (c.check_expression-in-Let-2.ensures.types Φ (Γ ++ (f.0 ∷ [])) i.second end call inner f.3 i.second_proper)

@@ -9,9 +9,6 @@ use Rattle.language.proofs.Lies.{body_given}
 use Rattle.language.proofs.Results.{then_at, then_err}
 use Rattle.language.proofs.typing.check_bodies.Goals as goal
 
-pub loop-number-init : goal.loop-number-init
-loop-number-init c p enc out = ([], p.functions, refl, refl, refl)
-
 -- a function that is left to check
 some_left : (fs before following : List Function) (n : ℕ) → fs ≡ before ++ following → length before ≡ n → n < length fs → (f : Function) × (later : List Function) × (following ≡ f ∷ later)
 some_left fs before [] n e l h = absurd (omega (arith, ap length e, length-append before []))

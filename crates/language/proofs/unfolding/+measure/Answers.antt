@@ -1,6 +1,5 @@
-use Rattle.std.proofs.Common.{◌≡◌, ℕ, ◌<◌, ◌≤◌, List, [], ◌∷◌, ◌++◌, length, get_or, Ok, ap, ◌∙◌, subst, arith, length-drop}
+use Rattle.std.proofs.Common.{◌≡◌, ℕ, ◌<◌, List, [], ◌∷◌, ◌++◌, get_or, Ok, ap, ◌∙◌, subst, arith}
 use Rattle.std.proofs.lemmas.Result.{IfOk-from_err, IfOk-weaker}
-use Rattle.bounded.specs.Listed.{listed}
 use Rattle.language.specs.declared.reading.FunctionOutline.{FunctionOutline}
 use Rattle.language.specs.declared.command.Simple.{Simple}
 use Rattle.language.specs.declared.command.Command.{Command}
@@ -21,33 +20,24 @@ simple_is w bytes rest end e x s g i b h = simple_at w bytes rest end e s (g ∙
 tree_is : (Φ : List Function) (Γ : List Ty) (e : Expr) (s : Simple) → e ≡ plain s → unfold_expr Φ (bodies_of Φ) Γ e ≡ unfold_simple (bodies_of Φ) s
 tree_is Φ Γ e s i = ap (unfold_expr Φ (bodies_of Φ) Γ) i ∙ simple_tree Φ (bodies_of Φ) Γ s
 
-pub returns-in_err-command : goal.returns-in_err-command
-returns-in_err-command t c = record {
-  measured = λ p Φ following Γ e end enc out well cut n b h calls. absurd (head_there c.args.part.whole c.args.part.bytes.now end e b h c.in_err-command.ensures.gives);
-  shorter = IfOk-from_err c.from_residual.result _ c.from_residual.ensures.0;
-  within = IfOk-from_err c.from_residual.result _ c.from_residual.ensures.0;
-}
+pub returns-in_err-command-clause-measured : goal.returns-in_err-command-clause-measured
+returns-in_err-command-clause-measured t c =
+    λ p Φ following Γ e end enc out well cut n b h calls. absurd (head_there c.args.part.whole c.args.part.bytes.now end e b h c.in_err-command.ensures.gives)
 
-pub returns-in_err-counted : goal.returns-in_err-counted
-returns-in_err-counted t c = record {
-  measured = λ p Φ following Γ e end enc out well cut n b h calls.
-      let k = c.in_err-counted.ensures in
-      broke_measured end c.args.part.whole c.args.so_far c.from_residual-in_err-counted.result _ (unfold_expr Φ (bodies_of Φ) Γ e) c.from_residual-in_err-counted.ensures.1
-      (k.1, omega (arith, k.0, some_size (unfold_expr Φ (bodies_of Φ) Γ e)));
-  shorter = IfOk-from_err c.from_residual-in_err-counted.result _ c.from_residual-in_err-counted.ensures.0;
-  within = IfOk-from_err c.from_residual-in_err-counted.result _ c.from_residual-in_err-counted.ensures.0;
-}
+pub returns-in_err-counted-clause-measured : goal.returns-in_err-counted-clause-measured
+returns-in_err-counted-clause-measured t c =
+    λ p Φ following Γ e end enc out well cut n b h calls.
+    let k = c.in_err-counted.ensures in
+    broke_measured end c.args.part.whole c.args.so_far c.from_residual-in_err-counted.result _ (unfold_expr Φ (bodies_of Φ) Γ e) c.from_residual-in_err-counted.ensures.1
+    (k.1, omega (arith, k.0, some_size (unfold_expr Φ (bodies_of Φ) Γ e)))
 
-pub returns-in-Flip : goal.returns-in-Flip
-returns-in-Flip t c = record {
-  measured = λ p Φ following Γ e end enc out well cut n b h calls.
-      let s = simple_is c.args.part.whole c.args.part.bytes.now c.in_ok-command.rest.bytes.now end e c.in_ok-command.command c.in-Simple.simple (as_read c.in_ok-command.ensures.gives) c.in-Simple.is b h in
-      let k = c.in_ok-counted.ensures in
-      let e = tree_is Φ Γ e c.in-Simple.simple s.expr_is ∙ ap (unfold_simple (bodies_of Φ)) c.in-Flip.is in
-      (omega (arith, k.1, ap size e), omega (arith, k.2, ap flips e), omega (arith, k.0, k.1), s.rest_is, c.in_ok-command.ensures.gives.3);
-  shorter = c.in_ok-command.ensures.shorter;
-  within = omega (arith, c.in_ok-counted.ensures.1, c.in_ok-counted.ensures.2);
-}
+pub returns-in-Flip-clause-measured : goal.returns-in-Flip-clause-measured
+returns-in-Flip-clause-measured t c =
+    λ p Φ following Γ e end enc out well cut n b h calls.
+    let s = simple_is c.args.part.whole c.args.part.bytes.now c.in_ok-command.rest.bytes.now end e c.in_ok-command.command c.in-Simple.simple (as_read c.in_ok-command.ensures.gives) c.in-Simple.is b h in
+    let k = c.in_ok-counted.ensures in
+    let e = tree_is Φ Γ e c.in-Simple.simple s.expr_is ∙ ap (unfold_simple (bodies_of Φ)) c.in-Flip.is in
+    (omega (arith, k.1, ap size e), omega (arith, k.2, ap flips e), omega (arith, k.0, k.1), s.rest_is, c.in_ok-command.ensures.gives.3)
 
 pub returns-in_default : goal.returns-in_default
 returns-in_default t c = record {
@@ -61,49 +51,33 @@ returns-in_default t c = record {
   within = omega (arith, c.in_ok-counted.ensures.1, c.in_ok-counted.ensures.2);
 }
 
-pub returns-then-number-below : goal.returns-then-number-below
-returns-then-number-below t c = record {
-  measured = λ p Φ following Γ e end enc out well cut n b h calls.
-      let s = simple_is c.args.part.whole c.args.part.bytes.now c.in_ok-command.rest.bytes.now end e c.in_ok-command.command c.in-Simple.simple (as_read c.in_ok-command.ensures.gives) c.in-Simple.is b h in
-      let k : c.in-Call.number < c.args.below = subst (CallsBelow c.args.below) (s.expr_is ∙ ap plain c.in-Call.is) calls in
-      absurd (omega arith);
-  shorter = tt;
-  within = tt;
-}
+pub returns-then-number-below-clause-measured : goal.returns-then-number-below-clause-measured
+returns-then-number-below-clause-measured t c =
+    λ p Φ following Γ e end enc out well cut n b h calls.
+    let s = simple_is c.args.part.whole c.args.part.bytes.now c.in_ok-command.rest.bytes.now end e c.in_ok-command.command c.in-Simple.simple (as_read c.in_ok-command.ensures.gives) c.in-Simple.is b h in
+    let k : c.in-Call.number < c.args.below = subst (CallsBelow c.args.below) (s.expr_is ∙ ap plain c.in-Call.is) calls in
+    absurd (omega arith)
 
-pub measure-requires : goal.measure-requires
-measure-requires t c =
-    let n : length c.body_part-body.result.bytes.now ≤ length c.args.outline.now.program.now = omega (arith, ap length c.body_part-body.ensures.bytes, length-drop c.index-as_slice-number.result.body c.args.outline.now.program.now) in
+pub returns-in_err-with_body-in-Call-clause-measured : goal.returns-in_err-with_body-in-Call-clause-measured
+returns-in_err-with_body-in-Call-clause-measured t c =
+    λ p Φ following Γ e end enc out well cut n b h calls.
+    let s = simple_is c.args.part.whole c.args.part.bytes.now c.in_ok-command.rest.bytes.now end e c.in_ok-command.command c.in-Simple.simple (as_read c.in_ok-command.ensures.gives) c.in-Simple.is b h in
     let k = c.in_ok-counted.ensures in
-    let few : c.args.below ≤ length (listed c.args.outline.now.functions) = c.requires.below in
-    (omega (arith, n, c.requires.short), (c.requires.short, (omega arith, omega (arith, k.1, k.2))))
+    let tree = tree_is Φ Γ e c.in-Simple.simple s.expr_is ∙ ap (unfold_simple (bodies_of Φ)) c.in-Call.is in
+    let r = call_ready c.args.outline.now p Φ following c.in-Call.number c.index-as_slice-number.result c.body_part-body.result.bytes.now enc out well cut (omega (arith, n)) (c.index-as_slice-number.is ∙ ap (λ (fs : List FunctionOutline). get_or fs c.in-Call.number c.index-as_slice-number.result) c.as_slice.ensures.items) c.body_part-body.ensures.bytes in
+    let m = c.in_err-with_body-in-Call.ensures.measured p r.before r.later (r.function.parameter ∷ []) r.function.body r.rest enc out well r.cut r.count r.part_is r.proper r.calls in
+    broke_measured end c.args.part.whole c.args.so_far c.from_residual-in_err-with_body-in-Call.result _ (unfold_expr Φ (bodies_of Φ) Γ e) c.from_residual-in_err-with_body-in-Call.ensures.1
+    (m.0, omega (arith, m.1, k.1, ap size tree, ap size r.tree))
 
-pub returns-in_err-with_body-in-Call : goal.returns-in_err-with_body-in-Call
-returns-in_err-with_body-in-Call t c = record {
-  measured = λ p Φ following Γ e end enc out well cut n b h calls.
-      let s = simple_is c.args.part.whole c.args.part.bytes.now c.in_ok-command.rest.bytes.now end e c.in_ok-command.command c.in-Simple.simple (as_read c.in_ok-command.ensures.gives) c.in-Simple.is b h in
-      let k = c.in_ok-counted.ensures in
-      let tree = tree_is Φ Γ e c.in-Simple.simple s.expr_is ∙ ap (unfold_simple (bodies_of Φ)) c.in-Call.is in
-      let r = call_ready c.args.outline.now p Φ following c.in-Call.number c.index-as_slice-number.result c.body_part-body.result.bytes.now enc out well cut (omega (arith, n)) (c.index-as_slice-number.is ∙ ap (λ (fs : List FunctionOutline). get_or fs c.in-Call.number c.index-as_slice-number.result) c.as_slice.ensures.items) c.body_part-body.ensures.bytes in
-      let m = c.in_err-with_body-in-Call.ensures.measured p r.before r.later (r.function.parameter ∷ []) r.function.body r.rest enc out well r.cut r.count r.part_is r.proper r.calls in
-      broke_measured end c.args.part.whole c.args.so_far c.from_residual-in_err-with_body-in-Call.result _ (unfold_expr Φ (bodies_of Φ) Γ e) c.from_residual-in_err-with_body-in-Call.ensures.1
-      (m.0, omega (arith, m.1, k.1, ap size tree, ap size r.tree));
-  shorter = IfOk-from_err c.from_residual-in_err-with_body-in-Call.result _ c.from_residual-in_err-with_body-in-Call.ensures.0;
-  within = IfOk-from_err c.from_residual-in_err-with_body-in-Call.result _ c.from_residual-in_err-with_body-in-Call.ensures.0;
-}
-
-pub returns-in_ok-with_body-in-Call : goal.returns-in_ok-with_body-in-Call
-returns-in_ok-with_body-in-Call t c = record {
-  measured = λ p Φ following Γ e end enc out well cut n b h calls.
-      let s = simple_is c.args.part.whole c.args.part.bytes.now c.in_ok-command.rest.bytes.now end e c.in_ok-command.command c.in-Simple.simple (as_read c.in_ok-command.ensures.gives) c.in-Simple.is b h in
-      let k = c.in_ok-counted.ensures in
-      let tree = tree_is Φ Γ e c.in-Simple.simple s.expr_is ∙ ap (unfold_simple (bodies_of Φ)) c.in-Call.is in
-      let r = call_ready c.args.outline.now p Φ following c.in-Call.number c.index-as_slice-number.result c.body_part-body.result.bytes.now enc out well cut (omega (arith, n)) (c.index-as_slice-number.is ∙ ap (λ (fs : List FunctionOutline). get_or fs c.in-Call.number c.index-as_slice-number.result) c.as_slice.ensures.items) c.body_part-body.ensures.bytes in
-      let m = c.in_ok-with_body-in-Call.ensures.measured p r.before r.later (r.function.parameter ∷ []) r.function.body r.rest enc out well r.cut r.count r.part_is r.proper r.calls in
-      (omega (arith, m.0, k.1, ap size tree, ap size r.tree), omega (arith, m.1, k.2, ap flips tree, ap flips r.tree), m.2, s.rest_is, c.in_ok-command.ensures.gives.3);
-  shorter = c.in_ok-command.ensures.shorter;
-  within = c.in_ok-with_body-in-Call.ensures.within;
-}
+pub returns-in_ok-with_body-in-Call-clause-measured : goal.returns-in_ok-with_body-in-Call-clause-measured
+returns-in_ok-with_body-in-Call-clause-measured t c =
+    λ p Φ following Γ e end enc out well cut n b h calls.
+    let s = simple_is c.args.part.whole c.args.part.bytes.now c.in_ok-command.rest.bytes.now end e c.in_ok-command.command c.in-Simple.simple (as_read c.in_ok-command.ensures.gives) c.in-Simple.is b h in
+    let k = c.in_ok-counted.ensures in
+    let tree = tree_is Φ Γ e c.in-Simple.simple s.expr_is ∙ ap (unfold_simple (bodies_of Φ)) c.in-Call.is in
+    let r = call_ready c.args.outline.now p Φ following c.in-Call.number c.index-as_slice-number.result c.body_part-body.result.bytes.now enc out well cut (omega (arith, n)) (c.index-as_slice-number.is ∙ ap (λ (fs : List FunctionOutline). get_or fs c.in-Call.number c.index-as_slice-number.result) c.as_slice.ensures.items) c.body_part-body.ensures.bytes in
+    let m = c.in_ok-with_body-in-Call.ensures.measured p r.before r.later (r.function.parameter ∷ []) r.function.body r.rest enc out well r.cut r.count r.part_is r.proper r.calls in
+    (omega (arith, m.0, k.1, ap size tree, ap size r.tree), omega (arith, m.1, k.2, ap flips tree, ap flips r.tree), m.2, s.rest_is, c.in_ok-command.ensures.gives.3)
 
 pub returns-in_err-with_first-in-If : goal.returns-in_err-with_first-in-If
 returns-in_err-with_first-in-If t c = record {

@@ -1,27 +1,18 @@
 use Rattle.std.proofs.Common.{◌≡◌, ℕ, [], length, Ok, Err, sym, ap, ◌∙◌, subst, append-nil, arith}
-use Rattle.language.specs.declared.fault.UnfoldFault.TheVariants.{Typing, Flips}
+use Rattle.language.specs.declared.fault.UnfoldFault.TheVariants.{Flips}
 use Rattle.language.specs.Grammar.{Encodes}
 use Rattle.language.specs.Unfolding.{CallsBelow}
 use Rattle.language.proofs.TypedBytes.{typed_sound}
 use Rattle.language.proofs.Lies.{main_ready}
 use Rattle.language.proofs.Unfolds.{well_called, typed_calls}
-use Rattle.language.proofs.AcceptedBytes.{accepted_fault, accepted_typed, too_large, too_many_flips, within_limits, unfolds_well, broke_unfolding}
+use Rattle.language.proofs.AcceptedBytes.{accepted_typed, too_large, too_many_flips, within_limits, unfolds_well, broke_unfolding}
 use Rattle.language.proofs.unfolding.unfold_main.Goals as goal
 
-pub returns-in_err-typed : goal.returns-in_err-typed
-returns-in_err-typed c =
-    unfolds_well c.args.program.now c.from_residual.result
-    (broke_unfolding c.from_residual.result (Typing _) c.from_residual.ensures.1 (accepted_fault c.args.program.now c.in_err-typed.ensures.exact))
-
-pub measure-requires : goal.measure-requires
-measure-requires c =
+pub measure-requires-clause-short : goal.measure-requires-clause-short
+measure-requires-clause-short c =
     let t = c.in_ok-typed.ensures.exact in
     let d = typed_sound c.args.program.now t.0 t.1 in
-    record {
-      short = omega (arith, ap length t.2.outline_is.program_is, d.0.1.bytes);
-      below = omega (arith, c.len-all.ensures.count);
-      flips = omega arith;
-    }
+    omega (arith, ap length t.2.outline_is.program_is, d.0.1.bytes)
 
 pub returns-in_err-figures : goal.returns-in_err-figures
 returns-in_err-figures c =
