@@ -12,7 +12,7 @@ use Rattle.std.proofs.lemmas.Bool.Decides.{Decides-eqb}
 use Rattle.bounded.specs.declared.Bounded.{Bounded}
 use Rattle.bounded.specs.Listed.{listed}
 use Rattle.language.specs.declared.types.TypeCode.{TypeCode}
-use Rattle.language.specs.declared.reading.FunctionOutline.{FunctionOutline}
+use Rattle.language.specs.declared.outline.FunctionOutline.{FunctionOutline}
 use Rattle.language.specs.declared.fault.TypeFault.TheVariants.{OutOfScope, OverLimit}
 use Rattle.language.specs.Outlines.{type_bytes, Coded, AllCoded, PairCoded, Types, AllOutlined, Callable, Outlined}
 use Rattle.language.specs.Reading.{type_from}

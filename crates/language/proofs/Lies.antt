@@ -1,8 +1,8 @@
 -- Where the bodies and the main expression lie in a program's bytes.
 use Rattle.std.proofs.Common.{◌≡◌, ℕ, ◌-◌, ◌<◌, ◌≤◌, List, [], ◌∷◌, ◌++◌, length, get_or, take, drop, sym, refl, ap, ◌∙◌, subst, append_assoc, append-nil, arith, length-append}
 use Rattle.std.proofs.lemmas.List.{drop_at, get_or-take, length-take-le}
-use Rattle.language.specs.declared.reading.FunctionOutline.{FunctionOutline}
-use Rattle.language.specs.declared.reading.Outline.{Outline}
+use Rattle.language.specs.declared.outline.FunctionOutline.{FunctionOutline}
+use Rattle.language.specs.declared.outline.Outline.{Outline}
 use Rattle.language.specs.Grammar.{Encodes}
 use Rattle.language.specs.Outlines.{Outlined, AllOutlined, Callable, Outlines}
 use Rattle.language.specs.Syntax.{Expr, Function, Program, encode, encode_ty, encode_expr, encode_function, encode_functions, place_after, body_place, Proper, Readable, AllReadable}

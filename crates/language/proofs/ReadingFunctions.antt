@@ -3,7 +3,7 @@ use Rattle.std.proofs.Common.{◌≡◌, ℕ, suc, ◌<◌, ◌⊎◌, List, [],
 use Rattle.std.proofs.Math.ListN.{get_or-append}
 use Rattle.std.proofs.lemmas.List.{get_or_push, length_push}
 use Rattle.language.specs.declared.fault.ReadFault.{ReadFault}
-use Rattle.language.specs.declared.reading.FunctionOutline.{FunctionOutline}
+use Rattle.language.specs.declared.outline.FunctionOutline.{FunctionOutline}
 use Rattle.language.specs.Outcomes.{and_then}
 use Rattle.language.specs.Outlines.{Outlined, Callable}
 use Rattle.language.specs.Syntax.{Function, encode_function, encode_functions, place_after}

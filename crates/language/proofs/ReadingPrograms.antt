@@ -4,7 +4,7 @@ use Rattle.std.proofs.lemmas.Bool.{false≢true}
 use Rattle.std.proofs.lemmas.List.{take_rest}
 use Rattle.language.specs.declared.fault.ReadFault.{ReadFault}
 use Rattle.language.specs.declared.fault.ReadFault.TheVariants.{TooLong, Unknown, Trailing}
-use Rattle.language.specs.declared.reading.Outline.{Outline}
+use Rattle.language.specs.declared.outline.Outline.{Outline}
 use Rattle.language.specs.Outcomes.{and_then}
 use Rattle.language.specs.Outlines.{Reads}
 use Rattle.language.specs.Syntax.{Function, Expr, Program, encode, encode_expr, encode_functions, WithinReading}

@@ -9,8 +9,8 @@ use Rattle.language.specs.declared.command.Command.TheVariants as commands
 use Rattle.language.specs.declared.fault.UnfoldFault.{UnfoldFault}
 use Rattle.language.specs.declared.fault.UnfoldFault.TheVariants.{Size}
 use Rattle.bounded.specs.Listed.{listed}
-use Rattle.language.specs.declared.reading.FunctionOutline.{FunctionOutline}
-use Rattle.language.specs.declared.reading.Outline.{Outline}
+use Rattle.language.specs.declared.outline.FunctionOutline.{FunctionOutline}
+use Rattle.language.specs.declared.outline.Outline.{Outline}
 use Rattle.language.specs.declared.rest.Rest.{Rest}
 use Rattle.language.specs.declared.unfolding.Figures.{Figures}
 use Rattle.language.specs.Accepting.{Measures}

@@ -5,8 +5,8 @@ use Rattle.bounded.specs.declared.Bounded.{Bounded}
 use Rattle.bounded.specs.Listed.{listed}
 use Rattle.language.specs.declared.fault.ReadFault.{ReadFault}
 use Rattle.language.specs.declared.types.TypeCode.{TypeCode}
-use Rattle.language.specs.declared.reading.FunctionOutline.{FunctionOutline}
-use Rattle.language.specs.declared.reading.Outline.{Outline}
+use Rattle.language.specs.declared.outline.FunctionOutline.{FunctionOutline}
+use Rattle.language.specs.declared.outline.Outline.{Outline}
 use Rattle.language.specs.Syntax.{Ty, bool, product, leaves, encode_ty, Function, Program, encode, place_after, body_place}
 
 -- the bytes of a type that the code holds

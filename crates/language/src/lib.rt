@@ -6,6 +6,7 @@ ghost use Rattle.language.specs.Cases.{CasesRight};
 pub mod command;
 pub mod fault;
 pub mod inspecting;
+pub mod outline;
 pub mod reading;
 pub mod rest;
 pub mod types;

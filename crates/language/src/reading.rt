@@ -8,48 +8,10 @@ ghost use Rattle.language.specs.Reading.{narrow_from, expr_from, function_from, 
 
 use crate::command::Command;
 use crate::fault::ReadFault;
+use crate::outline::{FunctionOutline, MOST_BYTES, MOST_FUNCTIONS, Outline};
 use crate::rest::Rest;
 use crate::types::{MOST_LEAVES, TypeCode, read_leaves};
 use bounded::Bounded;
-
-// The most bytes of a program, and the most functions.
-pub const MOST_BYTES: usize = 4096;
-
-pub const MOST_FUNCTIONS: usize = 16;
-
-// A function: its types, and the place where its body begins.
-#[derive(Clone, Copy)]
-pub struct FunctionOutline {
-    pub parameter: TypeCode,
-    pub result: TypeCode,
-    pub body: usize,
-}
-
-// A program that was read: its bytes, its functions, and the place of the main expression.
-#[derive(Clone, Copy)]
-pub struct Outline<'p> {
-    pub program: &'p [u8],
-    pub functions: Bounded<FunctionOutline, MOST_FUNCTIONS>,
-    pub main: usize,
-}
-
-impl<'p> Outline<'p> {
-    // The program from its main expression on.
-    pub fn main_part(&self) -> Rest<'p>
-        ensures bytes { result.bytes.now ≡ drop self.now.main self.now.program.now }
-        ensures whole { result.whole ≡ length self.now.program.now }
-    {
-        Rest::of(self.program, self.main)
-    }
-
-    // The program from the body of a function on.
-    pub fn body_part(&self, function: &FunctionOutline) -> Rest<'p>
-        ensures bytes { result.bytes.now ≡ drop function.now.body self.now.program.now }
-        ensures whole { result.whole ≡ length self.now.program.now }
-    {
-        Rest::of(self.program, function.body)
-    }
-}
 
 // The type at the front, and what is left behind it.
 fn read_type<'p>(part: Rest<'p>) -> Result<(TypeCode, Rest<'p>), ReadFault>

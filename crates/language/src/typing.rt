@@ -10,7 +10,8 @@ ghost use Rattle.language.specs.Unfolding.{typed_of};
 
 use crate::command::{Command, Operand, Simple};
 use crate::fault::TypeFault;
-use crate::reading::{FunctionOutline, Outline, read};
+use crate::outline::{FunctionOutline, Outline};
+use crate::reading::read;
 use crate::rest::Rest;
 use crate::types::TypeCode;
 use bounded::Bounded;

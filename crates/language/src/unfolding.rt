@@ -10,7 +10,7 @@ ghost use Rattle.language.specs.declared.fault.UnfoldFault.TheVariants.{Size};
 
 use crate::command::{Command, Simple};
 use crate::fault::{TypeFault, UnfoldFault};
-use crate::reading::Outline;
+use crate::outline::Outline;
 use crate::rest::Rest;
 use crate::typing::{TypedOutline, check_types};
 
@@ -50,7 +50,6 @@ fn measure<'p>(
     below: usize,
     so_far: Figures,
 ) -> Result<(Figures, Rest<'p>), UnfoldFault>
-    requires short { length outline.now.program.now ≤ 4096 }
     requires below { below ≤ length (listed outline.now.functions) }
     requires flips { so_far.flips ≤ so_far.size }
     ensures measured { (p : Program) (Φ following : List Function) (Γ : List Ty) (e : Expr) (end : List ℕ) → Encodes outline.now.program.now p → Outlines outline.now p → WellCalled p → p.functions ≡ Φ ++ following → length Φ ≡ below → part.entry.bytes.now ≡ encode_expr e ++ end → Proper e → CallsBelow below e → Measures end part.entry.whole so_far result (unfold_expr Φ (bodies_of Φ) Γ e) }

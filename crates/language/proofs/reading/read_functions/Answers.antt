@@ -2,7 +2,7 @@ use Rattle.std.proofs.Common.{◌≡◌, ℕ, List, suc, ◌+◌, ◌-◌, [], �
 use native.Mathlib.Nat.{sub-zero}
 use Rattle.std.proofs.lemmas.List.{length_push}
 use Rattle.bounded.specs.Listed.{listed}
-use Rattle.language.specs.declared.reading.FunctionOutline.{FunctionOutline}
+use Rattle.language.specs.declared.outline.FunctionOutline.{FunctionOutline}
 use Rattle.language.specs.Outlines.{Outlined, Callable, Functions}
 use Rattle.language.specs.Reading.{function_from}
 use Rattle.language.specs.Syntax.{encode_function, encode_functions, place_after}

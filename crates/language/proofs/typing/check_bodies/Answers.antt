@@ -1,7 +1,7 @@
 use Rattle.std.proofs.Common.{◌≡◌, ℕ, ◌+◌, ◌<◌, ◌≤◌, List, [], ◌∷◌, ◌++◌, length, Err, sym, refl, subst, ap, ◌∙◌, append_assoc, arith, length-append}
 use Rattle.std.proofs.lemmas.Result.{err_from_is_err_and}
 use Rattle.std.proofs.lemmas.List.{length_push}
-use Rattle.language.specs.declared.reading.FunctionOutline.{FunctionOutline}
+use Rattle.language.specs.declared.outline.FunctionOutline.{FunctionOutline}
 use Rattle.language.specs.Outlines.{Callable}
 use Rattle.language.specs.Syntax.{Function}
 use Rattle.language.specs.Typing.{checked_bodies}

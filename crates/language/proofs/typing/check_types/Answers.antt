@@ -1,10 +1,10 @@
 use Rattle.std.proofs.Common.{◌≡◌, ℕ, ◌-◌, List, [], length, Ok, sym, ap, ◌∙◌, subst}
-use Rattle.language.specs.declared.reading.FunctionOutline.{FunctionOutline}
+use Rattle.language.specs.declared.outline.FunctionOutline.{FunctionOutline}
 use Rattle.language.specs.declared.types.TypeCode.{TypeCode}
 use Rattle.language.specs.Outlines.{AllCoded, Callable, Outlines}
 use Rattle.language.specs.declared.fault.TypeFault.{TypeFault}
 use Rattle.language.specs.declared.fault.TypeFault.TheVariants.{Reading}
-use Rattle.language.specs.declared.reading.Outline.{Outline}
+use Rattle.language.specs.declared.outline.Outline.{Outline}
 use Rattle.language.specs.Grammar.{Encodes}
 use Rattle.language.specs.Reading.{tree_of}
 use Rattle.language.specs.Syntax.{Ty, Program, place_after}

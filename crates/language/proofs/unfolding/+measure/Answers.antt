@@ -1,6 +1,6 @@
 use Rattle.std.proofs.Common.{◌≡◌, ℕ, ◌<◌, List, [], ◌∷◌, ◌++◌, get_or, Ok, ap, ◌∙◌, subst, arith}
 use Rattle.std.proofs.lemmas.Result.{IfOk-from_err, IfOk-weaker}
-use Rattle.language.specs.declared.reading.FunctionOutline.{FunctionOutline}
+use Rattle.language.specs.declared.outline.FunctionOutline.{FunctionOutline}
 use Rattle.language.specs.declared.command.Simple.{Simple}
 use Rattle.language.specs.declared.command.Command.{Command}
 use Rattle.language.specs.declared.command.Command.TheVariants as commands
