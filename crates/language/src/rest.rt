@@ -40,40 +40,25 @@ impl<'p> Rest<'p> {
         ensures shorter { IfOk result (λ x. length x.1.bytes.now < length self.entry.bytes.now) }
     {
         let whole = self.whole;
-        match self.bytes {
-            [1, a, bytes @ ..] => {
-                let atom = Simple::Atom(Operand::from(*a));
-                Ok((Command::Simple(atom), Rest { bytes, whole }))
+        let (command, bytes) = match self.bytes {
+            [1, a, rest @ ..] => (Command::Simple(Simple::Atom(Operand::from(*a))), rest),
+            [2, a, b, rest @ ..] => {
+                let (first, second) = (Operand::from(*a), Operand::from(*b));
+                (Command::Simple(Simple::Pair(first, second)), rest)
             }
-            [2, a, b, bytes @ ..] => {
-                let pair = Simple::Pair(Operand::from(*a), Operand::from(*b));
-                Ok((Command::Simple(pair), Rest { bytes, whole }))
+            [3, a, rest @ ..] => (Command::Simple(Simple::First(Operand::from(*a))), rest),
+            [4, a, rest @ ..] => (Command::Simple(Simple::Second(Operand::from(*a))), rest),
+            [5, row, rest @ ..] => (Command::Simple(Simple::Flip(*row)), rest),
+            [6, guard, rest @ ..] => (Command::If(Operand::from(*guard)), rest),
+            [7, rest @ ..] => (Command::Let, rest),
+            [8, a, rest @ ..] => (Command::Simple(Simple::Observe(Operand::from(*a))), rest),
+            [9, function, a, rest @ ..] => {
+                let operand = Operand::from(*a);
+                (Command::Simple(Simple::Call(*function, operand)), rest)
             }
-            [3, a, bytes @ ..] => {
-                let first = Simple::First(Operand::from(*a));
-                Ok((Command::Simple(first), Rest { bytes, whole }))
-            }
-            [4, a, bytes @ ..] => {
-                let second = Simple::Second(Operand::from(*a));
-                Ok((Command::Simple(second), Rest { bytes, whole }))
-            }
-            [5, row, bytes @ ..] => {
-                Ok((Command::Simple(Simple::Flip(*row)), Rest { bytes, whole }))
-            }
-            [6, guard, bytes @ ..] => {
-                Ok((Command::If(Operand::from(*guard)), Rest { bytes, whole }))
-            }
-            [7, bytes @ ..] => Ok((Command::Let, Rest { bytes, whole })),
-            [8, a, bytes @ ..] => {
-                let observe = Simple::Observe(Operand::from(*a));
-                Ok((Command::Simple(observe), Rest { bytes, whole }))
-            }
-            [9, function, a, bytes @ ..] => {
-                let call = Simple::Call(*function, Operand::from(*a));
-                Ok((Command::Simple(call), Rest { bytes, whole }))
-            }
-            [] | [1..=9, ..] => Err(ReadFault::Ends(whole)),
-            _ => Err(ReadFault::Unknown(self.place())),
-        }
+            [] | [1..=9, ..] => return Err(ReadFault::Ends(whole)),
+            _ => return Err(ReadFault::Unknown(self.place())),
+        };
+        Ok((command, Rest { bytes, whole }))
     }
 }
