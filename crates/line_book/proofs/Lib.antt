@@ -1,6 +1,5 @@
 pub mod Numbers
 pub mod Wider
-pub mod Carried
 pub mod Growing
 pub mod Rights
 pub mod Longer

@@ -2,10 +2,9 @@
 use Rattle.std.proofs.Common.{◌≡◌, ℕ, min, List, [], ◌∷◌, ◌++◌, length, sym, refl, ap, subst, arith}
 use mathlib.Core.Logic.{∥∥₁_map}
 use Rattle.std.proofs.lemmas.Slice.Zip.{AllZip-long}
-use Rattle.bounded.specs.declared.Bounded.{Bounded}
 use Rattle.bounded.specs.Listed.{listed}
 use Rattle.diagram.specs.declared.Table.{Table}
-use Rattle.diagram.specs.Build.{Valid, Grown, Remembered, Restored, Cut}
+use Rattle.diagram.specs.Build.{Grown, Remembered, Restored, Cut}
 use Rattle.diagram.specs.Decisions.{at}
 use Rattle.diagram.proofs.Building.{lists_self}
 use Rattle.line_book.specs.declared.Book.{Book}
@@ -17,7 +16,6 @@ use Rattle.line_book.specs.Came.{View, view, room, Stands, Came, Lent}
 use Rattle.line_book.specs.Reading.{Right}
 use Rattle.line_book.specs.Seen.{seen}
 use Rattle.diagram.proofs.Validity.{table_valid}
-use Rattle.line_book.proofs.Carried.{Carries}
 use Rattle.line_book.proofs.Rights.{came_right}
 
 pub standing_more : (s : Standing) (h : History) (x : Step) → standing s (h ++ (x ∷ [])) ≡ after (standing s h) x
@@ -61,10 +59,10 @@ pub remembered : (s t : Table) → Restored s t → Remembered s t
 remembered s t r = record { valid = r.valid; nodes = r.nodes; used = r.used; lists = r.lists }
 
 pub lent_grown : (s t : Table) → Grown s t → Lent s t
-lent_grown s t g = record { lists = g.lists; size = g.size; beyond = λ k h. g.beyond k (omega (arith, g.valid.small)) }
+lent_grown s t g = record { lists = g.lists; size = g.size; beyond = λ k h. g.beyond k (omega (arith, t.small)) }
 
-pub lent_cut : (s t : Table) (mark : ℕ) → Valid s → Cut s t mark → Lent s t
-lent_cut s t mark v c = record { lists = c.lists; size = c.size; beyond = λ k h. c.beyond k (omega (arith, v.small)) }
+pub lent_cut : (s t : Table) (mark : ℕ) → Cut s t mark → Lent s t
+lent_cut s t mark c = record { lists = c.lists; size = c.size; beyond = λ k h. c.beyond k (omega (arith, s.small)) }
 
 -- What a call promises of every history that the book came from: the rules name its answer, and the book afterwards came from the longer one.
 -- Refused, it also holds what it held.
@@ -81,27 +79,28 @@ module _ (b : Book) (t : Table) where
   same_view : Remembered b.table t → view t (listed b.entries) (listed b.questions) ≡ seen b
   same_view r = λ i. record { nodes = r.nodes i; used = r.used i; entries = listed b.entries; questions = listed b.questions }
 
-  module _ (es : List Entry) (qs : List Question) (x : Step) (valid : Valid t) (lent : Lent b.table t)
+  module _ (es : List Entry) (qs : List Question) (x : Step) (lent : Lent b.table t)
       (lawful : (h : History) → Came h (seen b) → Lawful (room (seen b)) (standing nothing h) x)
       (stands : (h : History) → Came h (seen b) → Stands (after (standing nothing h) x) (view t es qs)) where
     longer : (h : History) → Came h (seen b) → Came (h ++ (x ∷ [])) (view t es qs)
     longer h c = came_more h x (seen b) (view t es qs) lent.size c (lawful h c) (stands h c)
 
     pub changed : (p : Type 0) → p → Promises b t es qs x p
-    changed p why = record { lawful = lawful; came = longer; right = λ h c. came_right t es qs valid (h ++ (x ∷ [])) (longer h c); refused = why; lent = lent }
+    changed p why = record { lawful = lawful; came = longer; right = λ h c. came_right t es qs (h ++ (x ∷ [])) (longer h c); refused = why; lent = lent }
 
   -- refused, over a table that differs in its memo at most
   pub refused : (x : Step) → ((s : Standing) → after s x ≡ s) → Remembered b.table t → ((h : History) → Came h (seen b) → Lawful (room (seen b)) (standing nothing h) x) →
       Promises b t (listed b.entries) (listed b.questions) x (view t (listed b.entries) (listed b.questions) ≡ seen b)
   refused x same r lawful =
       let lent : Lent b.table t = record { lists = r.lists; size = ap length r.nodes; beyond = λ k h. ap (λ ns. at ns k) r.nodes } in
-      changed (listed b.entries) (listed b.questions) x r.valid lent lawful
+      changed (listed b.entries) (listed b.questions) x lent lawful
       (λ h c. subst (λ (s : Standing). Stands s (view t (listed b.entries) (listed b.questions))) (sym (same (standing nothing h)))
       (subst (Stands (standing nothing h)) (sym (same_view r)) c.stands))
       _ (same_view r)
 
-  pub carries_same : Remembered b.table t → Carries t b.entries b.questions
+  -- what the type of a book asks: a history that it came from
+  pub carries_same : Remembered b.table t → record { came : ∥ ((h : History) × Came h (view t (listed b.entries) (listed b.questions))) ∥₁ }
   carries_same r = record { came = ∥∥₁_map b.came (λ k. (k.0, subst (Came k.0) (sym (same_view r)) k.1)) }
 
-  pub carries_more : (es : Bounded Entry 8) (qs : Bounded Question 64) (x : Step) → ((h : History) → Came h (seen b) → Came (h ++ (x ∷ [])) (view t (listed es) (listed qs))) → Carries t es qs
+  pub carries_more : (es : List Entry) (qs : List Question) (x : Step) → ((h : History) → Came h (seen b) → Came (h ++ (x ∷ [])) (view t es qs)) → record { came : ∥ ((h : History) × Came h (view t es qs)) ∥₁ }
   carries_more es qs x came = record { came = ∥∥₁_map b.came (λ k. (k.0 ++ (x ∷ []), came k.0 k.1)) }

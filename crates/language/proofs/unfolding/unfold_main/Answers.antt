@@ -8,12 +8,6 @@ use Rattle.language.proofs.Unfolds.{well_called, typed_calls}
 use Rattle.language.proofs.AcceptedBytes.{accepted_typed, too_large, too_many_flips, within_limits, unfolds_well, broke_unfolding}
 use Rattle.language.proofs.unfolding.unfold_main.Goals as goal
 
-pub measure-requires-clause-short : goal.measure-requires-clause-short
-measure-requires-clause-short c =
-    let t = c.in_ok-typed.ensures.exact in
-    let d = typed_sound c.args.program.now t.0 t.1 in
-    omega (arith, ap length t.2.outline_is.program_is, d.0.1.bytes)
-
 pub returns-in_err-figures : goal.returns-in_err-figures
 returns-in_err-figures c =
     let s = c.args.program.now in
