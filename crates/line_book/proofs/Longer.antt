@@ -75,6 +75,10 @@ Promises b t es qs x p = record {
   lent : Lent b.table t;
 }
 
+-- a refused one, over the table t
+abbrev pub Refuses : Book → Table → Step → Type 0
+Refuses b t x = Promises b t (listed b.entries) (listed b.questions) x (view t (listed b.entries) (listed b.questions) ≡ seen b)
+
 module _ (b : Book) (t : Table) where
   same_view : Remembered b.table t → view t (listed b.entries) (listed b.questions) ≡ seen b
   same_view r = λ i. record { nodes = r.nodes i; used = r.used i; entries = listed b.entries; questions = listed b.questions }
@@ -89,8 +93,7 @@ module _ (b : Book) (t : Table) where
     changed p why = record { lawful = lawful; came = longer; right = λ h c. came_right t es qs (h ++ (x ∷ [])) (longer h c); refused = why; lent = lent }
 
   -- refused, over a table that differs in its memo at most
-  pub refused : (x : Step) → ((s : Standing) → after s x ≡ s) → Remembered b.table t → ((h : History) → Came h (seen b) → Lawful (room (seen b)) (standing nothing h) x) →
-      Promises b t (listed b.entries) (listed b.questions) x (view t (listed b.entries) (listed b.questions) ≡ seen b)
+  pub refused : (x : Step) → ((s : Standing) → after s x ≡ s) → Remembered b.table t → ((h : History) → Came h (seen b) → Lawful (room (seen b)) (standing nothing h) x) → Refuses b t x
   refused x same r lawful =
       let lent : Lent b.table t = record { lists = r.lists; size = ap length r.nodes; beyond = λ k h. ap (λ ns. at ns k) r.nodes } in
       changed (listed b.entries) (listed b.questions) x lent lawful
