@@ -15,7 +15,7 @@ pub enum Layer {
     Unfolding,
 }
 
-// A refusal as it is reported: its number, the layer that it comes from, and the byte that it is about.
+// A refusal as it is reported: its number in the table of refusals, which is printed, the layer that it comes from, and the byte that it is about.
 #[derive(Clone, Copy, Debug, PartialEq, Eq)]
 pub struct Refusal<L> {
     pub number: u8,

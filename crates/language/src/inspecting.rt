@@ -1,7 +1,6 @@
 // Inspecting a program: through the three layers, to its figures or the first refusal.
 ghost use Rattle.language.specs.Accepting.{ByAllRules, Inspects};
 ghost use Rattle.language.specs.Unfolding.{accepted_of};
-ghost use Rattle.std.specs.Prelude.{◌≡◌};
 
 use crate::fault::UnfoldFault;
 use crate::unfolding::unfold_main;

@@ -1,5 +1,5 @@
 // Reading: a program's bytes from left to right, to the first fault or to an outline.
-ghost use Rattle.std.specs.Prelude.{◌≡◌, ◌+◌, ◌-◌, ◌<◌, ◌≤◌, [], length, drop, IfOk};
+ghost use Rattle.std.specs.Prelude.{◌≡◌, ◌+◌, ◌-◌, ◌<◌, ◌≤◌, [], length, IfOk};
 ghost use Rattle.bounded.specs.Listed.{listed};
 ghost use Rattle.language.specs.Grammar.{ByGrammar};
 ghost use Rattle.language.specs.Outcomes.{Follows};

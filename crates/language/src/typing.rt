@@ -1,5 +1,5 @@
 // Typing: the type of each expression, to the first fault.
-ghost use Rattle.std.specs.Prelude.{◌≡◌, ℕ, ◌+◌, ◌-◌, ◌<◌, ◌≤◌, List, [], ◌∷◌, ◌++◌, length, drop, IfOk};
+ghost use Rattle.std.specs.Prelude.{◌≡◌, ℕ, ◌+◌, ◌-◌, ◌<◌, ◌≤◌, List, [], ◌∷◌, ◌++◌, length, IfOk};
 ghost use Rattle.bounded.specs.Listed.{listed};
 ghost use Rattle.language.specs.Grammar.{Encodes};
 ghost use Rattle.language.specs.Outlines.{Coded, AllCoded, Outlined, Callable, Outlines, Types, TypesPast, PartsTyped};

@@ -1,5 +1,5 @@
 // Unfolding: how large the main expression is with each call in the place of the body that it calls.
-ghost use Rattle.std.specs.Prelude.{◌≡◌, ℕ, ◌+◌, ◌<◌, ◌≤◌, List, [], ◌∷◌, ◌++◌, length, IfOk, MatchResult};
+ghost use Rattle.std.specs.Prelude.{◌≡◌, ℕ, ◌+◌, ◌<◌, ◌≤◌, List, ◌++◌, length, IfOk, MatchResult};
 ghost use Rattle.bounded.specs.Listed.{listed};
 ghost use Rattle.language.specs.Accepting.{Measures, Unfolds, ByAllRules};
 ghost use Rattle.language.specs.Grammar.{Encodes};

@@ -1,5 +1,5 @@
 // Lists of calls on a new book.
-ghost use Rattle.std.specs.Prelude.{◌≡◌, min, List, [], ◌∷◌, ◌++◌, length, drop};
+ghost use Rattle.std.specs.Prelude.{◌≡◌, min, [], ◌∷◌, ◌++◌, length, drop};
 ghost use Rattle.line_book.specs.Came.{Came, Lent, Over, room};
 ghost use Rattle.line_book.specs.Histories.{History, step, standing, Lawful, AllLawful};
 ghost use Rattle.line_book.specs.Log.{act, told};
@@ -32,6 +32,7 @@ impl<'a> Book<'a> {
 }
 
 // Makes the calls in their order on a new book, each with its answer at its place; where there are fewer places, as many as there are.
+// Calls and answers are two lists, since the caller only lends the calls.
 pub fn replay<'a>(
     nodes: &'a mut [Node],
     memo: &'a mut [MemoItem],
