@@ -6,6 +6,7 @@ ghost use Rattle.std.specs.Prelude.{◌≡◌, ◌+◌, ◌<◌, ◌≤◌, ◌=
 use std::alloc::AllocError;
 
 // The first `count` of the items. What the others hold is seen nowhere.
+// The library's `ArrayVec` is no `Copy` type, and its `clone` may fail, as nothing here may. Beside ghost fields neither can be derived.
 pub struct Bounded<T, const N: usize> {
     items: [T; N],
     count: usize,

@@ -1,4 +1,4 @@
--- Results that are worked out one after the other, and those of code that answers with a reference to the rest.
+-- Results that are worked out one after the other, and those of code that answers with what is left of a program.
 use Rattle.std.specs.Prelude.{◌≡◌, ℕ, List, Ok, Err, Result}
 use Rattle.language.specs.declared.rest.Rest.{Rest}
 

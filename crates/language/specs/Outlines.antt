@@ -39,7 +39,7 @@ pub record Outlined (place : ℕ) (o : FunctionOutline) (f : Function) : Type 0 
   pub result_code : Coded o.result f.result
   pub body_is_at : o.body ≡ body_place place f
 
--- what it keeps of functions, the first of which begins at byte 1: each at its number, whatever stands for one that is not there
+-- what it keeps of functions, the first of which begins at byte 1: each at its number, where any element may stand for one that is missing
 abbrev pub AllOutlined : List FunctionOutline → List Function → Type 0
 AllOutlined os fs =
     (before : List Function) (f : Function) (following : List Function) (none : FunctionOutline) → fs ≡ before ++ (f ∷ following) →
@@ -49,7 +49,7 @@ AllOutlined os fs =
 abbrev pub Callable : List FunctionOutline → List Function → Type 0
 Callable os Φ = AllOutlined os Φ × (length Φ ≡ length os)
 
--- and these in a list of its own
+-- a program's functions, all of which may be called
 abbrev pub Functions : Bounded FunctionOutline 16 → List Function → Type 0
 Functions os fs = Callable (listed os) fs
 

@@ -11,7 +11,7 @@ use Rattle.language.specs.declared.fault.TypeFault.TheVariants.{Reading, OutOfSc
 use Rattle.language.specs.declared.fault.UnfoldFault.{UnfoldFault}
 use Rattle.language.specs.declared.fault.UnfoldFault.TheVariants.{Typing, Size, Flips}
 
--- a refusal by one of the layers L
+-- a refusal by its number, layer and place, whatever the layers are
 abbrev pub refusal : {L : Type 0} → (number : ℕ) → L → (place : ℕ) → Refusal L
 refusal n l p = record { number = n; layer = l; place = p }
 

@@ -177,7 +177,7 @@ impl From<TypeFault> for UnfoldFault {
     }
 }
 
-// A program that was taken apart again.
+// A program is read again where it is unfolded.
 impl From<ReadFault> for UnfoldFault {
     ghost from_gives = { λ e r. r ≡ Typing (Reading e) };
 

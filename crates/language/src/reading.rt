@@ -8,7 +8,7 @@ ghost use Rattle.language.specs.Reading.{narrow_from, expr_from, function_from, 
 
 use crate::command::Command;
 use crate::fault::ReadFault;
-use crate::outline::{FunctionOutline, MOST_BYTES, MOST_FUNCTIONS, Outline};
+pub use crate::outline::{FunctionOutline, MOST_BYTES, MOST_FUNCTIONS, Outline};
 use crate::rest::Rest;
 use crate::types::{MOST_LEAVES, TypeCode, read_leaves};
 use bounded::Bounded;

@@ -22,7 +22,7 @@ pub struct TypeCode {
     bytes: Bounded<u8, 31>,
 }
 
-// Equal by its bytes.
+// Equal by its bytes alone: places that are not in use do not count, so no derive.
 impl PartialEq for TypeCode {
     ghost eq = { on type_bytes (pointwise ◌==◌) };
 
@@ -41,7 +41,7 @@ impl TypeCode {
         TypeCode::of(&[0])
     }
 
-    // The type with these bytes.
+    // The type with these bytes. No `From`: not every list of bytes is short enough.
     pub(crate) fn of(bytes: &[u8]) -> TypeCode
         requires { length bytes.now ≤ 31 }
         ensures { type_bytes result ≡ bytes.now }

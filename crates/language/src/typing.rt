@@ -29,7 +29,7 @@ fn no_names() -> Scope
     Bounded::new(TypeCode::bool())
 }
 
-// The type of an operand of the command at a place.
+// The type of an operand of the command at a place. Scope and place are two parameters: a struct of both would be made anew for each command.
 fn operand_type(scope: &Scope, operand: Operand, place: usize) -> Result<TypeCode, TypeFault>
     ensures { (Γ : List Ty) → AllCoded (listed scope.now) Γ → Types result (type_of_operand Γ place operand) }
 {

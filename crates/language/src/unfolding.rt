@@ -20,15 +20,13 @@ pub const MOST_COMMANDS: usize = 4096;
 pub const MOST_FLIPS: usize = 128;
 
 // Commands and flips, counted up to 4,096 commands.
-#[derive(Clone, Copy, Debug, PartialEq, Eq)]
+#[derive(Clone, Copy, Debug, Default, PartialEq, Eq)]
 pub struct Figures {
     pub size: usize,
     pub flips: usize,
 }
 
 impl Figures {
-    const NONE: Figures = Figures { size: 0, flips: 0 };
-
     // One command more, unless there are 4,096.
     fn with_command(self) -> Result<Figures, UnfoldFault>
         ensures { MatchResult result (λ x. (self.size < 4096) × (x.size ≡ self.size + 1) × (x.flips ≡ self.flips)) (λ e. (4096 ≤ self.size) × (e ≡ Size)) }
@@ -98,7 +96,7 @@ pub fn unfold_main<'p>(program: &'p [u8]) -> Result<Unfolded<'p>, UnfoldFault>
     let typed = check_types(program)?;
     let outline = &typed.outline;
     let all = outline.functions.len();
-    let (figures, _) = measure(outline, outline.main_part(), all, Figures::NONE)?;
+    let (figures, _) = measure(outline, outline.main_part(), all, Figures::default())?;
     if figures.flips > MOST_FLIPS {
         return Err(UnfoldFault::Flips);
     }

@@ -67,8 +67,8 @@ fn calling(heap: Global, count: u8, calls: usize, main: &[u8]) -> Result<Vec<u8>
 }
 
 // Prints what inspecting the program finds.
-fn report(rt: &HostRuntime, name: &str, program: &Vec<u8>) -> anyhow::Result<()> {
-    match inspect(program.as_slice()) {
+fn report(rt: &HostRuntime, name: &str, program: &[u8]) -> anyhow::Result<()> {
+    match inspect(program) {
         Ok(found) => {
             let (size, flips) = (found.size, found.flips);
             println!(rt;

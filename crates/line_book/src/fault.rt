@@ -39,6 +39,7 @@ impl Fault for BookFault {
     fn refusal(&self) -> Refusal<Layer> {
         let number = match self {
             BookFault::Unfolding(fault) => {
+                // The same refusal, with its layer among more.
                 let refusal = fault.refusal();
                 return Refusal {
                     number: refusal.number,
