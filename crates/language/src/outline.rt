@@ -10,7 +10,7 @@ pub const MOST_BYTES: usize = 4096;
 
 pub const MOST_FUNCTIONS: usize = 16;
 
-// A function: its types, and the place where its body begins.
+// A function: its types, and the place where its body begins, which refusals name.
 #[derive(Clone, Copy)]
 pub struct FunctionOutline {
     pub parameter: TypeCode,

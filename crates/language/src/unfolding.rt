@@ -41,7 +41,8 @@ impl Figures {
     }
 }
 
-// Adds the figures of the expression at the front, unfolded, to `so_far`. It may call the first `below` functions.
+// Adds the figures of the expression at the front, unfolded, to `so_far`. It may call the first `below` functions;
+// a function's number is compared and not only looked up, since its body may call those below it.
 fn measure<'p>(
     outline: &Outline,
     part: Rest<'p>,

@@ -55,7 +55,7 @@ pub fn replay<'a>(
     book
 }
 
-// What is asked of a book when its calls are over: to count a question by the weights of the rows, and to compare it with another.
+// What is asked of a book when its calls are over: to count a question by the two lists of weights of the rows, and to compare it with another.
 #[derive(Drop)]
 pub struct Inquiry<'y, 'n, W> {
     pub question: usize,
