@@ -1,13 +1,15 @@
-use Rattle.std.proofs.Common.{◌≡◌, ℕ, ◌-◌, List, [], length, Ok, sym, ap, ◌∙◌, subst}
+use Rattle.std.proofs.Common.{◌≡◌, ℕ, ◌-◌, List, [], ◌++◌, length, drop, Ok, Err, Result, sym, refl, ap, ◌∙◌, subst}
+use Rattle.bounded.specs.Listed.{listed}
+use Rattle.language.specs.declared.rest.Rest.{Rest}
 use Rattle.language.specs.declared.outline.FunctionOutline.{FunctionOutline}
 use Rattle.language.specs.declared.types.TypeCode.{TypeCode}
-use Rattle.language.specs.Outlines.{AllCoded, Callable, Outlines}
+use Rattle.language.specs.Outlines.{AllCoded, Callable, Outlines, Reads, TypesPast}
 use Rattle.language.specs.declared.fault.TypeFault.{TypeFault}
 use Rattle.language.specs.declared.fault.TypeFault.TheVariants.{Reading}
 use Rattle.language.specs.declared.outline.Outline.{Outline}
 use Rattle.language.specs.Grammar.{Encodes}
 use Rattle.language.specs.Reading.{tree_of}
-use Rattle.language.specs.Syntax.{Ty, Program, place_after}
+use Rattle.language.specs.Syntax.{Ty, Expr, Function, Program, Proper, encode_expr, place_after}
 use Rattle.language.specs.Typing.{Checked, check, checked_bodies, checked_program}
 use Rattle.language.proofs.Results.{then_at, then_err}
 use Rattle.language.proofs.ReadingPrograms.{reading_exact}
@@ -37,32 +39,37 @@ returns-in_err-check_bodies c =
     (broke_typed c.from_residual-in_err-check_bodies.result (λ (f : TypeFault). f) _ c.from_residual-in_err-check_bodies.ensures.1
     (typed_program s r.1 ∙ then_err _ (bodies_fault r.0 (sym b))))
 
+-- what typing the main expression comes to
+main_typed : (s : List ℕ) (o : Outline) (r : Reads (Ok o) (tree_of s)) (bytes : List ℕ) (whole : ℕ) (functions : List FunctionOutline) (none : List TypeCode) (out : Result (TypeCode × Rest) TypeFault) →
+    bytes ≡ drop o.main o.program.now → whole ≡ length o.program.now → functions ≡ listed o.functions → none ≡ [] →
+    ((p : Program) → Encodes o.program.now p → Outlines o p → Ok tt ≡ checked_bodies [] p.functions) →
+    ((Φ : List Function) (Γ : List Ty) (e : Expr) (end : List ℕ) → Callable functions Φ → AllCoded none Γ → bytes ≡ encode_expr e ++ end → Proper e → TypesPast end whole out (check Φ Γ (whole - length bytes) e)) →
+    (x : Checked Ty) × ((end : List ℕ) × TypesPast end whole out x) × (checked_program r.0 ≡ x)
+main_typed s o r bytes whole functions none out at n is no_names bodies types =
+    let p = r.0 in
+    let enc = outlined s o p r.1 r.2 in
+    let call = subst (λ (os : List FunctionOutline). Callable os p.functions) (sym is) r.2.functions_are in
+    let no = subst (λ (ts : List TypeCode). AllCoded ts []) (sym no_names) tt in
+    let m = main_ready o p bytes enc r.2 at in
+    (_, (m.rest, types p.functions [] p.main m.rest call no m.part_is enc.1.main_proper), checked p (sym (bodies p enc r.2)) n m refl)
+
 pub returns-in_err-value : goal.returns-in_err-value
 returns-in_err-value c =
     let s = c.args.program.now in
     let r = c.in_ok-outline.ensures.exact in
-    let p = r.0 in
-    let enc = outlined s c.in_ok-outline.outline p r.1 r.2 in
-    let call = subst (λ (os : List FunctionOutline). Callable os p.functions) (sym c.as_slice-functions.ensures.items) r.2.functions_are in
-    let no = subst (λ (ts : List TypeCode). AllCoded ts []) (sym c.no_names.ensures) tt in
-    let m = main_ready c.in_ok-outline.outline p c.main_part.result.bytes.now enc r.2 c.main_part.ensures.bytes in
-    let v = c.in_err-value.ensures.types p.functions [] p.main m.rest call no m.part_is enc.1.main_proper in
+    let x = main_typed s c.in_ok-outline.outline r _ _ _ _ (Err c.in_err-value.field-0.0) c.main_part.ensures.bytes c.main_part.ensures.whole c.as_slice-functions.ensures.items c.no_names.ensures c.in_ok-check_bodies.ensures c.in_err-value.ensures.types in
     types_well s c.from_residual-in_err-value.result
     (broke_typed c.from_residual-in_err-value.result (λ (f : TypeFault). f) _ c.from_residual-in_err-value.ensures.1
-    (typed_program s r.1 ∙ then_err _ (checked p (sym (c.in_ok-check_bodies.ensures p enc r.2)) c.main_part.ensures.whole m v)))
+    (typed_program s r.1 ∙ then_err _ (x.2 ∙ x.1.1)))
 
 pub returns : goal.returns
 returns c =
     let s = c.args.program.now in
     let r = c.in_ok-outline.ensures.exact in
-    let p = r.0 in
-    let enc = outlined s c.in_ok-outline.outline p r.1 r.2 in
-    let call = subst (λ (os : List FunctionOutline). Callable os p.functions) (sym c.as_slice-functions.ensures.items) r.2.functions_are in
-    let no = subst (λ (ts : List TypeCode). AllCoded ts []) (sym c.no_names.ensures) tt in
-    let m = main_ready c.in_ok-outline.outline p c.main_part.result.bytes.now enc r.2 c.main_part.ensures.bytes in
-    let v = c.in_ok-value.ensures.types p.functions [] p.main m.rest call no m.part_is enc.1.main_proper in
+    let x = main_typed s c.in_ok-outline.outline r _ _ _ _ (Ok (c.in_ok-value.value, c.in_ok-value.field-0-1)) c.main_part.ensures.bytes c.main_part.ensures.whole c.as_slice-functions.ensures.items c.no_names.ensures c.in_ok-check_bodies.ensures c.in_ok-value.ensures.types in
+    let v = x.1.1 in
     types_well s (Ok _) (
-      (p, v.0),
-      typed_program s r.1 ∙ then_at (λ τ. Ok (p, τ)) (checked p (sym (c.in_ok-check_bodies.ensures p enc r.2)) c.main_part.ensures.whole m v.2),
+      (r.0, v.0),
+      typed_program s r.1 ∙ then_at (λ τ. Ok (r.0, τ)) (x.2 ∙ v.2),
       record { outline_is = r.2; value_is = v.1 },
     )
