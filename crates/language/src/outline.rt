@@ -18,7 +18,7 @@ pub struct FunctionOutline {
     pub body: usize,
 }
 
-// A program that was read: its bytes, its functions, and the place of the main expression.
+// A program that was read: its bytes, its functions, and the place of the main expression, as of a body.
 #[derive(Clone, Copy)]
 pub struct Outline<'p> {
     pub program: &'p [u8],

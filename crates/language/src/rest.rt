@@ -4,7 +4,7 @@ ghost use Rattle.std.specs.Prelude.{◌≡◌, ◌-◌, ◌<◌, ◌≤◌, leng
 use crate::command::{Command, Operand, Simple};
 use crate::fault::ReadFault;
 
-// The last bytes of a program of `whole` bytes.
+// The last bytes of a program, or of a type alone, of `whole` bytes.
 #[derive(Clone, Copy)]
 pub struct Rest<'p> {
     pub bytes: &'p [u8],

@@ -39,7 +39,7 @@ impl Fault for BookFault {
     fn refusal(&self) -> Refusal<Layer> {
         let number = match self {
             BookFault::Unfolding(fault) => {
-                // The same refusal, with its layer among more.
+                // The same refusal, with its layer among more: no conversion goes from one type of refusals to another by itself.
                 let refusal = fault.refusal();
                 return Refusal {
                     number: refusal.number,
