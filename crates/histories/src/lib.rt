@@ -1,0 +1,5 @@
+// Tests of a book's calls, one after the other.
+#![tactic(auto)]
+
+#[cfg(test)]
+mod tests;
