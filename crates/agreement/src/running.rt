@@ -10,17 +10,17 @@ use language::types::TypeCode;
 
 // A value: its type, and its leaves from left to right.
 #[derive(Clone, Copy)]
-pub struct Value {
+pub(crate) struct Value {
     pub kind: TypeCode,
     pub leaves: Bounded<bool, 16>,
 }
 
 // The values of the names in scope.
-pub type Scope = Bounded<Value, 32>;
+pub(crate) type Scope = Bounded<Value, 32>;
 
 // A run under way: the outcomes, the number of the next flip, and whether it passes so far.
 #[derive(Drop)]
-pub struct Run<'o> {
+pub(crate) struct Run<'o> {
     pub outcomes: &'o [bool],
     pub next: usize,
     pub passes: bool,
@@ -38,12 +38,12 @@ impl Value {
         Value { kind, leaves }
     }
 
-    pub fn of_bool(truth: bool) -> Value {
+    pub(crate) fn of_bool(truth: bool) -> Value {
         Value::of(TypeCode::bool(), &[truth])
     }
 
     // Whether a Bool is true.
-    pub fn holds(&self) -> bool {
+    pub(crate) fn holds(&self) -> bool {
         self.leaves.as_slice().first().copied().unwrap_or(false)
     }
 
@@ -68,7 +68,7 @@ impl Value {
 }
 
 // A scope without names.
-pub fn no_names() -> Scope
+pub(crate) fn no_names() -> Scope
     ensures { listed result ≡ [] }
 {
     Bounded::new(Value::of_bool(false))
@@ -114,7 +114,7 @@ fn run_simple(run: &mut Run, scope: &Scope, simple: Simple) -> Option<Value> {
 }
 
 // The value of the expression at the front, and what is left behind it; nothing where more than `depth` expressions lie in one another.
-pub fn run_expression<'p>(
+pub(crate) fn run_expression<'p>(
     run: &mut Run,
     outline: &Outline,
     part: Rest<'p>,
