@@ -1,31 +1,38 @@
 // Inspects a program: reads its bytes from standard input, and prints its figures or the refusal.
 #![tactic(auto)]
 
-ghost use Rattle.std.specs.Prelude.{◌≡◌, take, IfOk, IfSome};
+ghost use Rattle.std.specs.Prelude.{◌≡◌, ◌≤◌, length, take, IfOk, IfSome};
 
 use language::fault::Fault;
 use language::inspecting::inspect;
-use std::alloc::Global;
 use std::io;
 use std::io::Read;
 
 // One byte more than a program may have tells that an input is too long, however long it is.
-const MOST_READ: u64 = 4097;
+const MOST_READ: usize = 4097;
 
-// The first bytes of an input, or all of them.
-fn read_front<R: Read + Drop>(heap: Global, input: R) -> io::Result<Vec<u8>>
-    ensures { IfOk result (λ v. IfSome (R.remaining input) (λ xs. v.items ≡ take 4097 xs)) }
+// Reads into `front` until it is full or the input ends, and answers how many bytes there are.
+fn read_front<R: Read>(input: &mut R, front: &mut [u8]) -> io::Result<usize>
+    ensures within { IfOk result (λ n. n ≤ length front.new) }
+    ensures bytes { IfOk result (λ n. IfSome (R.remaining input.old) (λ xs. take n front.new ≡ take (length front.old) xs)) }
 {
-    let mut front = Vec::new(heap);
-    input.take(MOST_READ).read_to_end(&mut front)?;
-    Ok(front)
+    let mut end = 0;
+    while end < front.len() {
+        let more = input.read(&mut front[end..])?;
+        if more == 0 {
+            break;
+        }
+        end += more;
+    }
+    Ok(end)
 }
 
 fn main(rt: HostRuntime) -> io::Result<()> {
-    let program = read_front(rt.alloc(), rt.stdin())?;
-    match inspect(program.as_slice()) {
+    let mut front = [0; MOST_READ];
+    let end = read_front(&mut rt.stdin(), &mut front)?;
+    match inspect(&front[..end]) {
         Ok(found) => {
-            println!(rt; "bytes {}", program.len())?;
+            println!(rt; "bytes {end}")?;
             println!(rt; "functions {}", found.functions)?;
             println!(rt; "size {}", found.size)?;
             println!(rt; "flips {}", found.flips)?;

@@ -1,15 +1,23 @@
-use Rattle.std.proofs.Common.{◌≡◌, ℕ, List, [], ◌++◌, take, IfSome, Some, None, Option, ap, ◌∙◌}
-use Rattle.std.specs.Option.{option_map}
+use Rattle.std.proofs.Common.{◌≡◌, ℕ, ◌+◌, ◌≤◌, List, ◌++◌, rules, length, take, sym, ap, ◌∙◌, subst, length-take-le}
+use Rattle.std.specs.Io.KnownBytes.{Consumes}
+use Rattle.std.proofs.KnownBytes.{Consumes-trans}
+use borrow.Rule.Slice.PartMut.{put_mid, post_of}
+use lib.Seq.{take-append-le}
+use Rattle.std.proofs.Math.Seq.{take-append-add}
 use Rattle.inspect.proofs.read_front.Goals as goal
 
--- what was read behind an empty front
-whole_front : (o o' : Option (List ℕ)) (limit : ℕ) (start items : List ℕ) → IfSome (option_map (take limit) o) (λ xs. items ≡ start ++ xs) → o ≡ o' → limit ≡ 4097 → start ≡ [] → IfSome o' (λ xs. items ≡ take 4097 xs)
-whole_front (Some xs) (Some ys) limit start items h e n s =
-    let i : xs ≡ ys = cc in
-    h ∙ ap (λ (front : List ℕ). front ++ take limit xs) s ∙ ap (λ (k : ℕ). take k xs) n ∙ ap (take 4097) i
-whole_front o None limit start items h e n s = tt
-whole_front None (Some ys) limit start items h e n s = absurd (cc)
+-- a front, and n elements more that were put behind it
+front_grows : (a k n : ℕ) (xs ys : List ℕ) → a ≤ length xs → n ≤ length ys → take (a + n) (put_mid a k xs ys) ≡ take a xs ++ take n ys
+front_grows a k n xs ys within fits =
+    ap (λ (m : ℕ). take (m + n) (put_mid a k xs ys)) (sym (length-take-le a xs within))
+    ∙ take-append-add (take a xs) (ys ++ post_of a k xs) n
+    ∙ ap (λ (l : List ℕ). take a xs ++ l) (take-append-le n ys (post_of a k xs) fits)
 
-pub returns : goal.returns
-returns g c =
-    whole_front _ _ _ _ _ c.in_ok-read_to_end.ensures.bytes (ap g.R.Read.remaining c.take.ensures.inner) c.take.ensures.limit c.new-front.ensures.items
+pub loop-end-preserved : goal.loop-end-preserved
+loop-end-preserved g c =
+    let within = c.loop-end.invariant.0 in (
+      search rules,
+      search rules,
+      subst (Consumes _ _) (sym (front_grows _ _ _ _ _ within c.in_ok-more.ensures.bound.0))
+          (Consumes-trans _ _ _ _ _ c.loop-end.invariant.2 c.in_ok-more.ensures.bytes.0),
+    )
