@@ -1,9 +1,18 @@
 // Lists of at most N elements, held in place: no list allocates, and a copy is a copy of its array.
 #![tactic(auto)]
 
-ghost use Rattle.std.specs.Prelude.{◌≡◌, ◌+◌, ◌<◌, ◌≤◌, ◌==◌, [], ◌∷◌, ◌++◌, length};
+ghost use Rattle.std.specs.Prelude.{◌≡◌, ◌+◌, ◌<◌, ◌≤◌, ◌==◌, [], ◌∷◌, ◌++◌, length, take, drop, ⊤};
 
 use std::alloc::AllocError;
+
+// Writes `part` into `items`, from an index on.
+pub fn put<T: Copy>(items: &mut [T], from: usize, part: &[T])
+    requires { from + length part.now ≤ length items.old }
+    ensures { items.new ≡ take from items.old ++ (part.now ++ drop (from + length part.now) items.old) }
+{
+    let end = from + part.len();
+    items[from..end].copy_from_slice(part);
+}
 
 // The first `count` of the items. What the others hold is seen nowhere.
 // The library's `ArrayVec` is no `Copy` type, and its `clone` may fail, as nothing here may. Beside ghost fields neither can be derived.
@@ -18,6 +27,7 @@ impl<T: Copy, const N: usize> Copy for Bounded<T, N> {}
 
 impl<T: Copy, const N: usize> Clone for Bounded<T, N> {
     ghost is_clone = { λ a b. b ≡ a };
+    ghost is_infallible = { λ _. ⊤ };
 
     fn clone(&self) -> Result<Bounded<T, N>, AllocError> {
         Ok(*self)
@@ -83,7 +93,7 @@ impl<T: Copy, const N: usize> Bounded<T, N> {
     {
         let end = self.count + elements.len();
         let items = &mut self.items[..];
-        items[self.count..end].copy_from_slice(elements);
+        put(items, self.count, elements);
         self.count = end;
     }
 
