@@ -1,5 +1,6 @@
 // What is wrong with a program: the faults of each layer, and the refusal that each stands for.
 ghost use Rattle.language.specs.Refusals.{refusal_of_read, refusal_of_typing, refusal_of_unfolding, refusal_text};
+ghost use Rattle.language.specs.declared.fault.Layer.{Layer};
 ghost use Rattle.language.specs.declared.fault.Refusal.{Refusal};
 ghost use Rattle.language.specs.declared.fault.TypeFault.TheVariants.{Reading};
 ghost use Rattle.language.specs.declared.fault.UnfoldFault.TheVariants.{Typing};
@@ -16,8 +17,9 @@ pub enum Layer {
 }
 
 // A refusal as it is reported: its number in the table of refusals, which is printed, the layer that it comes from, and the byte that it is about.
+// The layers are those of a program, where none are named: a book has more.
 #[derive(Clone, Copy, Debug, PartialEq, Eq)]
-pub struct Refusal<L> {
+pub struct Refusal<L = Layer> {
     pub number: u8,
     pub layer: L,
     pub place: usize,
@@ -33,13 +35,10 @@ impl<L> fmt::Display for Refusal<L> {
 
 // What stops the work on a program: each case stands for one refusal.
 pub trait Fault {
-    // The layers that refuse.
-    type Layer: Copy;
-
     // By the table of refusals.
-    ghost means: { Self → Refusal Self.Layer };
+    ghost means: { Self → Refusal Layer };
 
-    fn refusal(&self) -> Refusal<Self::Layer>
+    fn refusal(&self) -> Refusal
         ensures { result ≡ means self.now };
 
     fn number(&self) -> u8
@@ -48,7 +47,7 @@ pub trait Fault {
         self.refusal().number
     }
 
-    fn layer(&self) -> Self::Layer
+    fn layer(&self) -> Layer
         ensures { result ≡ (means self.now).layer }
     {
         self.refusal().layer
@@ -77,11 +76,9 @@ pub enum ReadFault {
 }
 
 impl Fault for ReadFault {
-    type Layer = Layer;
-
     ghost means = { refusal_of_read };
 
-    fn refusal(&self) -> Refusal<Layer> {
+    fn refusal(&self) -> Refusal {
         let (number, place) = match self {
             ReadFault::TooLong => (1, 4096),
             ReadFault::Ends(place) => (2, *place),
@@ -112,11 +109,9 @@ pub enum TypeFault {
 }
 
 impl Fault for TypeFault {
-    type Layer = Layer;
-
     ghost means = { refusal_of_typing };
 
-    fn refusal(&self) -> Refusal<Layer> {
+    fn refusal(&self) -> Refusal {
         let (number, place) = match self {
             TypeFault::Reading(fault) => return fault.refusal(),
             TypeFault::OutOfScope(place) => (6, *place),
@@ -151,11 +146,9 @@ pub enum UnfoldFault {
 }
 
 impl Fault for UnfoldFault {
-    type Layer = Layer;
-
     ghost means = { refusal_of_unfolding };
 
-    fn refusal(&self) -> Refusal<Layer> {
+    fn refusal(&self) -> Refusal {
         let number = match self {
             UnfoldFault::Typing(fault) => return fault.refusal(),
             UnfoldFault::Size => 10,

@@ -31,12 +31,11 @@ pub enum BookFault {
     Questions,
 }
 
-impl Fault for BookFault {
-    type Layer = Layer;
-
-    ghost means = { refusal_of_book };
-
-    fn refusal(&self) -> Refusal<Layer> {
+impl BookFault {
+    // The refusal that the fault stands for. No `Fault`: its layers are those of a program.
+    pub fn refusal(&self) -> Refusal<Layer>
+        ensures { result ≡ refusal_of_book self.now }
+    {
         let number = match self {
             BookFault::Unfolding(fault) => {
                 // The same refusal, with its layer among more: no conversion goes from one type of refusals to another by itself.
@@ -88,12 +87,11 @@ pub enum CountFault {
     Cells,
 }
 
-impl Fault for CountFault {
-    type Layer = Layer;
-
-    ghost means = { refusal_of_count };
-
-    fn refusal(&self) -> Refusal<Layer> {
+impl CountFault {
+    // The refusal that the fault stands for. No `Fault`: its layers are those of a program.
+    pub fn refusal(&self) -> Refusal<Layer>
+        ensures { result ≡ refusal_of_count self.now }
+    {
         let number = match self {
             CountFault::NoQuestion => 17,
             CountFault::Weights => 18,
