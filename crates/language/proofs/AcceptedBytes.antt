@@ -1,5 +1,5 @@
 -- What the three layers accept, and what they refuse.
-use Rattle.std.proofs.Common.{◌≡◌, ℕ, ◌<◌, ◌≤◌, Bool, true, false, cond, leb, ◌↔◌, List, is_ok, IsErrAnd, Ok, Err, Result, sym, refl, ap, ◌∙◌, subst, le-leb, leb-true}
+use Rattle.std.proofs.Common.{◌≡◌, ℕ, ◌<◌, ◌≤◌, Bool, true, false, cond, leb, ◌↔◌, List, length, is_ok, IsErrAnd, IfOk, Ok, Err, Result, sym, refl, ap, ◌∙◌, subst, le-leb, leb-true}
 use borrow.Author.Tests.{lt-leb}
 use Rattle.std.proofs.lemmas.Bool.{false≢true, leb-false}
 use Rattle.language.specs.declared.fault.TypeFault.{TypeFault}
@@ -11,6 +11,7 @@ use Rattle.language.specs.Outcomes.{and_then}
 use Rattle.language.specs.Syntax.{Ty, Program}
 use Rattle.language.specs.Unfolding.{size, flips, unfolded, from_typing, typed_of, limited, accepted_of}
 use Rattle.language.proofs.Results.{clash, ok_same, then_at}
+use Rattle.language.proofs.ReadingPrograms.{encoded_short}
 use Rattle.language.proofs.TypedBytes.{typed_sound, typed_complete}
 
 pub accepted_typed : (bytes : List ℕ) {x : Program × Ty} → typed_of bytes ≡ Ok x → accepted_of bytes ≡ limited x
@@ -83,13 +84,13 @@ err_by_rules {A} bytes fault e =
     by_all_rules {A = A} bytes (Err fault) (λ h. absurd (false≢true h), λ x. absurd (clash e x.1))
     (λ f h. e ∙ ap Err (err_same {A = A} refl h))
 
--- both clauses of unfolding
+-- the clauses of unfolding
 abbrev pub UnfoldsWell : (bytes : List ℕ) → Result Unfolded UnfoldFault → Type 0
-UnfoldsWell bytes r = record { exact : Unfolds r (accepted_of bytes); rules : ByAllRules bytes r }
+UnfoldsWell bytes r = record { exact : Unfolds r (accepted_of bytes); rules : ByAllRules bytes r; within : IfOk r (λ _. length bytes ≤ 4096) }
 
 pub unfolds_well : (bytes : List ℕ) (r : Result Unfolded UnfoldFault) → Unfolds r (accepted_of bytes) → UnfoldsWell bytes r
-unfolds_well bytes (Ok u) h = record { exact = h; rules = ok_by_rules bytes u h.0 h.1 }
-unfolds_well bytes (Err fault) h = record { exact = h; rules = err_by_rules bytes fault h }
+unfolds_well bytes (Ok u) h = record { exact = h; rules = ok_by_rules bytes u h.0 h.1; within = encoded_short (accepted_sound bytes h.0 h.1).encoded }
+unfolds_well bytes (Err fault) h = record { exact = h; rules = err_by_rules bytes fault h; within = tt }
 
 pub broke_unfolding : {out : Result (Program × Ty) UnfoldFault} (r : Result Unfolded UnfoldFault) (e : UnfoldFault) → IsErrAnd r (λ y. y ≡ e) → out ≡ Err e → Unfolds r out
 broke_unfolding (Ok u) e h q = absurd h

@@ -79,5 +79,5 @@ body_ready bytes p before f following o part enc cut one d = (
   (readable_at before f following (subst AllReadable cut enc.1.functions_readable)).body_proper,
 )
 
-pub main_ready : (o : Outline) (p : Program) (part : List ℕ) → Encodes o.program.now p → Outlines o p → part ≡ drop o.main o.program.now → PartAt o.program.now (place_after p.functions) part p.main
-main_ready o p part enc out d = part_at (main_lies p) enc.0 out.main_is d
+pub main_ready : (bytes : List ℕ) (o : Outline) (p : Program) (part : List ℕ) → Encodes bytes p → Outlines o p → part ≡ drop o.main bytes → PartAt bytes (place_after p.functions) part p.main
+main_ready bytes o p part enc out d = part_at (main_lies p) enc.0 out.main_is d

@@ -1,5 +1,5 @@
 -- Reading a whole program.
-use Rattle.std.proofs.Common.{◌≡◌, ℕ, suc, ◌-◌, ◌<◌, ◌≤◌, Bool, true, false, cond, leb, ◌↔◌, List, [], ◌∷◌, ◌++◌, length, get_or, is_ok, IsErrAnd, Ok, Err, Result, sym, refl, ap, ◌∙◌, subst, append-nil, not-suc-le-zero, arith, le-leb, leb-true}
+use Rattle.std.proofs.Common.{◌≡◌, ℕ, suc, ◌-◌, ◌<◌, ◌≤◌, Bool, true, false, cond, leb, ◌↔◌, List, [], ◌∷◌, ◌++◌, length, get_or, is_ok, IsErrAnd, IfOk, Ok, Err, Result, sym, refl, ap, ◌∙◌, subst, append-nil, not-suc-le-zero, arith, le-leb, leb-true}
 use Rattle.std.proofs.lemmas.Bool.{false≢true}
 use Rattle.std.proofs.lemmas.List.{take_rest}
 use Rattle.language.specs.declared.fault.ReadFault.{ReadFault}
@@ -9,7 +9,7 @@ use Rattle.language.specs.Outcomes.{and_then}
 use Rattle.language.specs.Outlines.{Reads}
 use Rattle.language.specs.Syntax.{Function, Expr, Program, encode, encode_expr, encode_functions, WithinReading}
 use Rattle.language.specs.Reading.{expr_from, functions_from, closed, main_from, program_from, tree_of}
-use Rattle.language.specs.Grammar.{ReadingExact, ByGrammar}
+use Rattle.language.specs.Grammar.{Encodes, ReadingExact, ByGrammar}
 use Rattle.language.proofs.Commands.{after}
 use Rattle.language.proofs.Results.{clash, ok_same, then_at, then_ok}
 use Rattle.language.proofs.Encoding.{expr_sound, expr_complete, functions_sound, functions_complete}
@@ -95,10 +95,14 @@ by_grammar bytes r h = record {
   only_one = λ p q x y. ok_same (ap tree_of x.0 ∙ tree_complete p x.1) (ap tree_of y.0 ∙ tree_complete q y.1);
 }
 
--- both clauses of reading
+-- bytes that encode a program are few
+pub encoded_short : {bytes : List ℕ} {p : Program} → Encodes bytes p → length bytes ≤ 4096
+encoded_short e = omega (arith, ap length e.0, e.1.bytes)
+
+-- the clauses of reading
 abbrev pub ReadsWell : (bytes : List ℕ) → Result Outline ReadFault → Type 0
-ReadsWell bytes r = record { exact : Reads r (tree_of bytes); grammar : ByGrammar bytes r }
+ReadsWell bytes r = record { exact : Reads r (tree_of bytes); grammar : ByGrammar bytes r; within : IfOk r (λ _. length bytes ≤ 4096) }
 
 pub reads_well : (bytes : List ℕ) (r : Result Outline ReadFault) → Reads r (tree_of bytes) → ReadsWell bytes r
-reads_well bytes (Ok o) h = record { exact = h; grammar = by_grammar bytes (Ok o) (λ _. (h.0, h.1), λ _. refl) }
-reads_well bytes (Err fault) h = record { exact = h; grammar = by_grammar bytes (Err fault) (λ e. absurd (false≢true e), λ x. absurd (clash h x.1)) }
+reads_well bytes (Ok o) h = record { exact = h; grammar = by_grammar bytes (Ok o) (λ _. (h.0, h.1), λ _. refl); within = encoded_short (tree_sound bytes h.0 h.1) }
+reads_well bytes (Err fault) h = record { exact = h; grammar = by_grammar bytes (Err fault) (λ e. absurd (false≢true e), λ x. absurd (clash h x.1)); within = tt }

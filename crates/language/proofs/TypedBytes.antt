@@ -1,5 +1,5 @@
 -- Typing a program's bytes: what is accepted is what the rules derive.
-use Rattle.std.proofs.Common.{◌≡◌, ℕ, ◌≤◌, true, ◌↔◌, List, [], length, is_ok, IsErrAnd, IfOk, Ok, Err, Result, sym, refl, ap, ◌∙◌, subst, arith}
+use Rattle.std.proofs.Common.{◌≡◌, ℕ, ◌≤◌, true, ◌↔◌, List, [], length, is_ok, IsErrAnd, IfOk, Ok, Err, Result, sym, refl, ap, ◌∙◌, subst}
 use Rattle.std.proofs.lemmas.Bool.{false≢true}
 use Rattle.language.specs.declared.fault.ReadFault.{ReadFault}
 use Rattle.language.specs.declared.fault.TypeFault.{TypeFault}
@@ -13,7 +13,7 @@ use Rattle.language.specs.Typing.{WellTyped, check, checked_bodies, checked_prog
 use Rattle.language.specs.TypedPrograms.{OutlinesTyped, ByRules}
 use Rattle.language.specs.Unfolding.{from_reading, typed_of}
 use Rattle.language.proofs.Results.{clash, ok_same, then_at, then_err, then_ok}
-use Rattle.language.proofs.ReadingPrograms.{reading_exact}
+use Rattle.language.proofs.ReadingPrograms.{encoded_short, reading_exact}
 use Rattle.language.proofs.Derivations.{program_sound, program_complete}
 
 from_reading_ok : {A : Type 0} (r : Result A ReadFault) {x : A} → from_reading r ≡ Ok x → r ≡ Ok x
@@ -60,13 +60,10 @@ by_rules bytes r h = record {
   only_one = λ p σ τ d d'. ok_same (program_complete p σ d) (program_complete p τ d');
 }
 
--- both clauses of typing
+-- the clauses of typing
 abbrev pub TypesWell : (bytes : List ℕ) → Result TypedOutline TypeFault → Type 0
 TypesWell bytes r = record { exact : OutlinesTyped r (typed_of bytes); derived : ByRules bytes r; within : IfOk r (λ _. length bytes ≤ 4096) }
 
 pub types_well : (bytes : List ℕ) (r : Result TypedOutline TypeFault) → OutlinesTyped r (typed_of bytes) → TypesWell bytes r
-types_well bytes (Ok o) h = record { exact = h; derived = by_rules bytes (Ok o) (λ _. (h.0, h.1), λ _. refl); within = few }
-  where
-    few : length bytes ≤ 4096
-    few = let e = (typed_sound bytes h.0 h.1).0 in omega (arith, ap length e.0, e.1.bytes)
+types_well bytes (Ok o) h = record { exact = h; derived = by_rules bytes (Ok o) (λ _. (h.0, h.1), λ _. refl); within = encoded_short (typed_sound bytes h.0 h.1).0 }
 types_well bytes (Err fault) h = record { exact = h; derived = by_rules bytes (Err fault) (λ e. absurd (false≢true e), λ x. absurd (clash h x.1)); within = tt }

@@ -188,12 +188,12 @@ pub record CallReady (p : Program) (Φ : List Function) (number : ℕ) (part : L
   pub calls : CallsBelow number function.body
   pub tree : body_at (bodies_of Φ) number ≡ unfold_expr before (bodies_of before) (function.parameter ∷ []) function.body
 
-pub call_ready : (o : Outline) (p : Program) (Φ following : List Function) (number : ℕ) (function : FunctionOutline) (part : List ℕ) → Encodes o.program.now p → Outlines o p → WellCalled p → p.functions ≡ Φ ++ following → number < length Φ → function ≡ get_or (listed o.functions) number function → part ≡ drop function.body o.program.now → CallReady p Φ number part
-call_ready o p Φ following number function part enc out well e h is d =
+pub call_ready : (bytes : List ℕ) (o : Outline) (p : Program) (Φ following : List Function) (number : ℕ) (function : FunctionOutline) (part : List ℕ) → Encodes bytes p → Outlines o p → WellCalled p → p.functions ≡ Φ ++ following → number < length Φ → function ≡ get_or (listed o.functions) number function → part ≡ drop function.body bytes → CallReady p Φ number part
+call_ready bytes o p Φ following number function part enc out well e h is d =
     let c = cut_at Φ number h in
     let whole : p.functions ≡ c.0 ++ (c.1 ∷ (c.2 ++ following)) = e ∙ ap (λ (x : List Function). x ++ following) c.3 ∙ append_assoc c.0 (c.1 ∷ c.2) following in
     let one = body_given (listed o.functions) p.functions c.0 c.1 (c.2 ++ following) number function out.functions_are whole c.4 is in
-    let r = body_ready o.program.now p c.0 c.1 (c.2 ++ following) function part enc whole one.1 d in
+    let r = body_ready bytes p c.0 c.1 (c.2 ++ following) function part enc whole one.1 d in
     record {
       before = c.0;
       function = c.1;

@@ -7,7 +7,7 @@ use Rattle.language.specs.declared.fault.ReadFault.{ReadFault}
 use Rattle.language.specs.declared.types.TypeCode.{TypeCode}
 use Rattle.language.specs.declared.outline.FunctionOutline.{FunctionOutline}
 use Rattle.language.specs.declared.outline.Outline.{Outline}
-use Rattle.language.specs.Syntax.{Ty, bool, product, leaves, encode_ty, Function, Program, encode, place_after, body_place}
+use Rattle.language.specs.Syntax.{Ty, bool, product, leaves, encode_ty, Function, Program, place_after, body_place}
 
 -- the bytes of a type that the code holds
 abbrev pub type_bytes : TypeCode → List ℕ
@@ -55,7 +55,6 @@ Functions os fs = Callable (listed os) fs
 
 -- and of a program
 pub record Outlines (o : Outline) (p : Program) : Type 0 where
-  pub program_is : o.program.now ≡ encode p
   pub functions_are : Functions o.functions p.functions
   pub main_is : o.main ≡ place_after p.functions
 

@@ -1,4 +1,4 @@
-// The outline of a program that was read.
+// The outline of a program that was read, and a program with its outline.
 ghost use Rattle.std.specs.Prelude.{◌≡◌, ◌≤◌, length, drop};
 
 use crate::rest::Rest;
@@ -18,22 +18,28 @@ pub struct FunctionOutline {
     pub body: usize,
 }
 
-// A program that was read: its bytes, its functions, and the place of the main expression, as of a body.
+// A program that was read: its functions, and the place of the main expression, as of a body.
 #[derive(Clone, Copy)]
-pub struct Outline<'p> {
-    pub program: &'p [u8],
+pub struct Outline {
     pub functions: Bounded<FunctionOutline, MOST_FUNCTIONS>,
     pub main: usize,
+}
+
+// A program's bytes, and its outline, so that a place is never read in another program's bytes.
+#[derive(Clone, Copy)]
+pub struct OutlinedProgram<'p> {
+    pub program: &'p [u8],
+    pub outline: &'p Outline,
     pub ghost short: { length program.now ≤ 4096 },
 }
 
-impl<'p> Outline<'p> {
+impl<'p> OutlinedProgram<'p> {
     // The program from its main expression on.
     pub fn main_part(&self) -> Rest<'p>
-        ensures bytes { result.bytes.now ≡ drop self.now.main self.now.program.now }
+        ensures bytes { result.bytes.now ≡ drop self.now.outline.now.main self.now.program.now }
         ensures whole { result.whole ≡ length self.now.program.now }
     {
-        Rest::of(self.program, self.main)
+        Rest::of(self.program, self.outline.main)
     }
 
     // The program from the body of a function on.

@@ -90,9 +90,10 @@ fn read_functions<'p>(
 }
 
 // The outline of a program, or the first fault.
-pub fn read<'p>(program: &'p [u8]) -> Result<Outline<'p>, ReadFault>
+pub fn read(program: &[u8]) -> Result<Outline, ReadFault>
     ensures exact { Reads result (tree_of program.now) }
     ensures grammar { ByGrammar program.now result }
+    ensures within { IfOk result (λ _. length program.now ≤ 4096) }
 {
     if program.len() > MOST_BYTES {
         return Err(ReadFault::TooLong);
@@ -110,9 +111,5 @@ pub fn read<'p>(program: &'p [u8]) -> Result<Outline<'p>, ReadFault>
     if !rest.bytes.is_empty() {
         return Err(ReadFault::Trailing(rest.place()));
     }
-    Ok(Outline {
-        program,
-        functions,
-        main,
-    })
+    Ok(Outline { functions, main })
 }

@@ -10,7 +10,7 @@ ghost use Rattle.language.specs.Unfolding.{typed_of};
 
 use crate::command::{Command, Operand, Simple};
 use crate::fault::TypeFault;
-use crate::outline::{FunctionOutline, Outline};
+use crate::outline::{FunctionOutline, Outline, OutlinedProgram};
 use crate::reading::read;
 use crate::rest::Rest;
 use crate::types::TypeCode;
@@ -158,13 +158,13 @@ fn check_expression<'p>(
 
 // Checks the body of a function that may call those before it: it has the type that the function promises.
 fn check_body(
-    outline: &Outline,
+    outlined: &OutlinedProgram,
     callable: &[FunctionOutline],
     function: &FunctionOutline,
 ) -> Result<(), TypeFault>
-    ensures { (p : Program) (before : List Function) (f : Function) (following : List Function) → Encodes outline.now.program.now p → p.functions ≡ before ++ (f ∷ following) → Callable callable.now before → Outlined (place_after before) function.now f → result ≡ checked_body before f }
+    ensures { (p : Program) (before : List Function) (f : Function) (following : List Function) → Encodes outlined.now.program.now p → p.functions ≡ before ++ (f ∷ following) → Callable callable.now before → Outlined (place_after before) function.now f → result ≡ checked_body before f }
 {
-    let body = outline.body_part(function);
+    let body = outlined.body_part(function);
     let mut scope = no_names();
     scope.push(function.parameter);
     let (found, _) = check_expression(body, callable, &scope)?;
@@ -175,32 +175,36 @@ fn check_body(
 }
 
 // Checks the bodies of all functions, in their order.
-fn check_bodies(outline: &Outline) -> Result<(), TypeFault>
-    ensures { (p : Program) → Encodes outline.now.program.now p → Outlines outline.now p → result ≡ checked_bodies [] p.functions }
+fn check_bodies(outlined: &OutlinedProgram) -> Result<(), TypeFault>
+    ensures { (p : Program) → Encodes outlined.now.program.now p → Outlines outlined.now.outline.now p → result ≡ checked_bodies [] p.functions }
 {
-    let functions = outline.functions.as_slice();
+    let functions = outlined.outline.functions.as_slice();
     for (number, function) in functions.iter().enumerate() {
-        check_body(outline, &functions[..number], function)?;
+        check_body(outlined, &functions[..number], function)?;
     }
     Ok(())
 }
 
 // A program that was read and typed: its outline, and the type of its main expression.
 #[derive(Clone, Copy)]
-pub struct TypedOutline<'p> {
-    pub outline: Outline<'p>,
+pub struct TypedOutline {
+    pub outline: Outline,
     pub value: TypeCode,
 }
 
 // The outline of a program with the type of its main expression, or the first fault of reading and typing.
-pub fn check_types<'p>(program: &'p [u8]) -> Result<TypedOutline<'p>, TypeFault>
+pub fn check_types(program: &[u8]) -> Result<TypedOutline, TypeFault>
     ensures exact { OutlinesTyped result (typed_of program.now) }
     ensures derived { ByRules program.now result }
     ensures within { IfOk result (λ _. length program.now ≤ 4096) }
 {
     let outline = read(program)?;
-    check_bodies(&outline)?;
+    let outlined = OutlinedProgram {
+        program,
+        outline: &outline,
+    };
+    check_bodies(&outlined)?;
     let functions = outline.functions.as_slice();
-    let (value, _) = check_expression(outline.main_part(), functions, &no_names())?;
+    let (value, _) = check_expression(outlined.main_part(), functions, &no_names())?;
     Ok(TypedOutline { outline, value })
 }

@@ -10,7 +10,7 @@ ghost use Rattle.language.specs.declared.fault.UnfoldFault.TheVariants.{Size};
 
 use crate::command::{Command, Simple};
 use crate::fault::{TypeFault, UnfoldFault};
-use crate::outline::Outline;
+use crate::outline::OutlinedProgram;
 use crate::rest::Rest;
 use crate::typing::{TypedOutline, check_types};
 
@@ -44,14 +44,14 @@ impl Figures {
 // Adds the figures of the expression at the front, unfolded, to `so_far`. It may call the first `below` functions;
 // a function's number is compared and not only looked up, since its body may call those below it.
 fn measure<'p>(
-    outline: &Outline,
+    outlined: &OutlinedProgram,
     part: Rest<'p>,
     below: usize,
     so_far: Figures,
 ) -> Result<(Figures, Rest<'p>), UnfoldFault>
-    requires below { below ≤ length (listed outline.now.functions) }
+    requires below { below ≤ length (listed outlined.now.outline.now.functions) }
     requires flips { so_far.flips ≤ so_far.size }
-    ensures measured { (p : Program) (Φ following : List Function) (Γ : List Ty) (e : Expr) (end : List ℕ) → Encodes outline.now.program.now p → Outlines outline.now p → WellCalled p → p.functions ≡ Φ ++ following → length Φ ≡ below → part.entry.bytes.now ≡ encode_expr e ++ end → Proper e → CallsBelow below e → Measures end part.entry.whole so_far result (unfold_expr Φ (bodies_of Φ) Γ e) }
+    ensures measured { (p : Program) (Φ following : List Function) (Γ : List Ty) (e : Expr) (end : List ℕ) → Encodes outlined.now.program.now p → Outlines outlined.now.outline.now p → WellCalled p → p.functions ≡ Φ ++ following → length Φ ≡ below → part.entry.bytes.now ≡ encode_expr e ++ end → Proper e → CallsBelow below e → Measures end part.entry.whole so_far result (unfold_expr Φ (bodies_of Φ) Γ e) }
     ensures shorter { IfOk result (λ x. length x.1.bytes.now < length part.entry.bytes.now) }
     ensures within { IfOk result (λ x. x.0.flips ≤ x.0.size) }
 {
@@ -69,35 +69,39 @@ fn measure<'p>(
                 if number >= below {
                     return Err(UnfoldFault::Typing(TypeFault::NoFunction(part.place())));
                 }
-                let body = outline.body_part(&outline.functions.as_slice()[number]);
-                let (with_body, _) = measure(outline, body, number, counted)?;
+                let body = outlined.body_part(&outlined.outline.functions.as_slice()[number]);
+                let (with_body, _) = measure(outlined, body, number, counted)?;
                 Ok((with_body, rest))
             }
             _ => Ok((counted, rest)),
         },
         Command::If(_) | Command::Let => {
-            let (with_first, rest) = measure(outline, rest, below, counted)?;
-            measure(outline, rest, below, with_first)
+            let (with_first, rest) = measure(outlined, rest, below, counted)?;
+            measure(outlined, rest, below, with_first)
         }
     }
 }
 
 // A program that is accepted: what typing found, and the figures of its unfolded main expression.
 #[derive(Clone, Copy)]
-pub struct Unfolded<'p> {
-    pub typed: TypedOutline<'p>,
+pub struct Unfolded {
+    pub typed: TypedOutline,
     pub figures: Figures,
 }
 
 // What the three layers find of a program, or the first fault.
-pub fn unfold_main<'p>(program: &'p [u8]) -> Result<Unfolded<'p>, UnfoldFault>
+pub fn unfold_main(program: &[u8]) -> Result<Unfolded, UnfoldFault>
     ensures exact { Unfolds result (accepted_of program.now) }
     ensures rules { ByAllRules program.now result }
+    ensures within { IfOk result (λ _. length program.now ≤ 4096) }
 {
     let typed = check_types(program)?;
-    let outline = &typed.outline;
-    let all = outline.functions.len();
-    let (figures, _) = measure(outline, outline.main_part(), all, Figures::default())?;
+    let outlined = OutlinedProgram {
+        program,
+        outline: &typed.outline,
+    };
+    let all = typed.outline.functions.len();
+    let (figures, _) = measure(&outlined, outlined.main_part(), all, Figures::default())?;
     if figures.flips > MOST_FLIPS {
         return Err(UnfoldFault::Flips);
     }

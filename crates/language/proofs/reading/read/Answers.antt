@@ -6,7 +6,7 @@ use Rattle.language.specs.Reading.{Read, expr_from, functions_from, main_from, t
 use Rattle.language.proofs.Commands.{after, length_after}
 use Rattle.language.proofs.Results.{then_at, then_err, at_whole}
 use Rattle.language.proofs.Encoding.{functions_sound}
-use Rattle.language.proofs.ReadingPrograms.{reading_exact, broke_reads, reads_well, program_begins, main_begins, closed_open, closed_shut}
+use Rattle.language.proofs.ReadingPrograms.{broke_reads, reads_well, program_begins, main_begins, closed_open, closed_shut}
 use Rattle.language.proofs.reading.read.Goals as goal
 
 -- the functions behind the first byte
@@ -64,7 +64,6 @@ returns c =
       p,
       tree,
       record {
-        program_is = ((reading_exact s p).0 tree).0;
         functions_are = (fs.1.0, fs.1.1);
         main_is = omega (arith, ap length f.0, length-append (encode_functions fs.0) c.in_ok-functions.rest.bytes.now, length_after 1 s, some, c.place-main.ensures, n);
       },

@@ -7,7 +7,7 @@ use Rattle.language.proofs.typing.check_bodies.Given as goal
 
 abbrev pub invariant-loop-number : goal.invariant-loop-number
 invariant-loop-number l =
-    (p : Program) → Encodes l.outline.program.now p → Outlines l.outline p →
+    (p : Program) → Encodes l.outlined.program.now p → Outlines l.outlined.outline.now p →
     (before : List Function) × (following : List Function)
     × (p.functions ≡ before ++ following)
     × (length before ≡ l.number)

@@ -64,7 +64,7 @@ returns-in_err-with_body-in-Call-clause-measured t c =
     let s = simple_is c.args.part.whole c.args.part.bytes.now c.in_ok-command.rest.bytes.now end e c.in_ok-command.command c.in-Simple.simple (as_read c.in_ok-command.ensures.gives) c.in-Simple.is b h in
     let k = c.in_ok-counted.ensures in
     let tree = tree_is Φ Γ e c.in-Simple.simple s.expr_is ∙ ap (unfold_simple (bodies_of Φ)) c.in-Call.is in
-    let r = call_ready c.args.outline.now p Φ following c.in-Call.number c.index-as_slice-number.result c.body_part-body.result.bytes.now enc out well cut (omega (arith, n)) (c.index-as_slice-number.is ∙ ap (λ (fs : List FunctionOutline). get_or fs c.in-Call.number c.index-as_slice-number.result) c.as_slice.ensures.items) c.body_part-body.ensures.bytes in
+    let r = call_ready c.args.outlined.now.program.now c.args.outlined.now.outline.now p Φ following c.in-Call.number c.index-as_slice-number.result c.body_part-body.result.bytes.now enc out well cut (omega (arith, n)) (c.index-as_slice-number.is ∙ ap (λ (fs : List FunctionOutline). get_or fs c.in-Call.number c.index-as_slice-number.result) c.as_slice.ensures.items) c.body_part-body.ensures.bytes in
     let m = c.in_err-with_body-in-Call.ensures.measured p r.before r.later (r.function.parameter ∷ []) r.function.body r.rest enc out well r.cut r.count r.part_is r.proper r.calls in
     broke_measured end c.args.part.whole c.args.so_far c.from_residual-in_err-with_body-in-Call.result _ (unfold_expr Φ (bodies_of Φ) Γ e) c.from_residual-in_err-with_body-in-Call.ensures.1
     (m.0, omega (arith, m.1, k.1, ap size tree, ap size r.tree))
@@ -75,7 +75,7 @@ returns-in_ok-with_body-in-Call-clause-measured t c =
     let s = simple_is c.args.part.whole c.args.part.bytes.now c.in_ok-command.rest.bytes.now end e c.in_ok-command.command c.in-Simple.simple (as_read c.in_ok-command.ensures.gives) c.in-Simple.is b h in
     let k = c.in_ok-counted.ensures in
     let tree = tree_is Φ Γ e c.in-Simple.simple s.expr_is ∙ ap (unfold_simple (bodies_of Φ)) c.in-Call.is in
-    let r = call_ready c.args.outline.now p Φ following c.in-Call.number c.index-as_slice-number.result c.body_part-body.result.bytes.now enc out well cut (omega (arith, n)) (c.index-as_slice-number.is ∙ ap (λ (fs : List FunctionOutline). get_or fs c.in-Call.number c.index-as_slice-number.result) c.as_slice.ensures.items) c.body_part-body.ensures.bytes in
+    let r = call_ready c.args.outlined.now.program.now c.args.outlined.now.outline.now p Φ following c.in-Call.number c.index-as_slice-number.result c.body_part-body.result.bytes.now enc out well cut (omega (arith, n)) (c.index-as_slice-number.is ∙ ap (λ (fs : List FunctionOutline). get_or fs c.in-Call.number c.index-as_slice-number.result) c.as_slice.ensures.items) c.body_part-body.ensures.bytes in
     let m = c.in_ok-with_body-in-Call.ensures.measured p r.before r.later (r.function.parameter ∷ []) r.function.body r.rest enc out well r.cut r.count r.part_is r.proper r.calls in
     (omega (arith, m.0, k.1, ap size tree, ap size r.tree), omega (arith, m.1, k.2, ap flips tree, ap flips r.tree), m.2, s.rest_is, c.in_ok-command.ensures.gives.3)
 

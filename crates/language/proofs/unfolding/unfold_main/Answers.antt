@@ -19,18 +19,17 @@ use Rattle.language.proofs.unfolding.unfold_main.Goals as goal
 
 -- what measuring the main expression of a program that was typed comes to
 main_measured : (s : List ℕ) (u : TypedOutline) (t : OutlinesTyped (Ok u) (typed_of s)) (bytes : List ℕ) (whole all : ℕ) (so_far : Figures) (r : Result (Figures × Rest) UnfoldFault) →
-    bytes ≡ drop u.outline.main u.outline.program.now → all ≡ length (listed u.outline.functions) →
-    ((p : Program) (Φ following : List Function) (Γ : List Ty) (e : Expr) (end : List ℕ) → Encodes u.outline.program.now p → Outlines u.outline p → WellCalled p → p.functions ≡ Φ ++ following → length Φ ≡ all → bytes ≡ encode_expr e ++ end → Proper e → CallsBelow all e → Measures end whole so_far r (unfold_expr Φ (bodies_of Φ) Γ e)) →
+    bytes ≡ drop u.outline.main s → all ≡ length (listed u.outline.functions) →
+    ((p : Program) (Φ following : List Function) (Γ : List Ty) (e : Expr) (end : List ℕ) → Encodes s p → Outlines u.outline p → WellCalled p → p.functions ≡ Φ ++ following → length Φ ≡ all → bytes ≡ encode_expr e ++ end → Proper e → CallsBelow all e → Measures end whole so_far r (unfold_expr Φ (bodies_of Φ) Γ e)) →
     (end : List ℕ) × Measures end whole so_far r (unfolded t.0.0)
 main_measured s u t bytes whole all so_far r at n measured =
     let p = t.0.0 in
     let d = typed_sound s t.0 t.1 in
     let out = t.2.outline_is in
-    let enc : Encodes u.outline.program.now p = (out.program_is, d.0.1) in
-    let m = main_ready u.outline p bytes enc out at in
+    let m = main_ready s u.outline p bytes d.0 out at in
     let count : length p.functions ≡ all = out.functions_are.1 ∙ sym n in
     let calls = subst (λ (k : ℕ). CallsBelow k p.main) count (typed_calls d.1.main) in
-    (m.rest, measured p p.functions [] [] p.main m.rest enc out (well_called p t.0.1 d.1) (sym (append-nil p.functions)) count m.part_is d.0.1.main_proper calls)
+    (m.rest, measured p p.functions [] [] p.main m.rest d.0 out (well_called p t.0.1 d.1) (sym (append-nil p.functions)) count m.part_is d.0.1.main_proper calls)
 
 pub returns-in_err-figures : goal.returns-in_err-figures
 returns-in_err-figures c =
