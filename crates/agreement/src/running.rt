@@ -4,7 +4,7 @@ ghost use Rattle.bounded.specs.Listed.{listed};
 
 use bounded::Bounded;
 use language::command::{Command, Operand, Simple};
-use language::outline::Outline;
+use language::outline::OutlinedProgram;
 use language::rest::Rest;
 use language::types::TypeCode;
 
@@ -116,7 +116,7 @@ fn run_simple(run: &mut Run, scope: &Scope, simple: Simple) -> Option<Value> {
 // The value of the expression at the front, and what is left behind it; nothing where more than `depth` expressions lie in one another.
 pub(crate) fn run_expression<'p>(
     run: &mut Run,
-    outline: &Outline,
+    outlined: &OutlinedProgram,
     part: Rest<'p>,
     scope: &Scope,
     depth: u16,
@@ -128,13 +128,14 @@ pub(crate) fn run_expression<'p>(
     let (command, rest) = part.next_command().ok()?;
     match command {
         Command::Simple(Simple::Call(number, a)) => {
-            let function = outline.functions.as_slice().get(number as usize)?;
+            let functions = outlined.outline.functions.as_slice();
+            let function = functions.get(number as usize)?;
             let mut names = no_names();
             names.push(operand(scope, a)?);
             let (value, _) = run_expression(
                 run,
-                outline,
-                outline.body_part(function),
+                outlined,
+                outlined.body_part(function),
                 &names,
                 deeper,
             )?;
@@ -144,22 +145,22 @@ pub(crate) fn run_expression<'p>(
         Command::If(guard) => {
             let guard = operand(scope, guard)?.holds();
             let before = run.passes;
-            let (first, rest) = run_expression(run, outline, rest, scope, deeper)?;
+            let (first, rest) = run_expression(run, outlined, rest, scope, deeper)?;
             let first_passes = run.passes;
             run.passes = before;
-            let (second, rest) = run_expression(run, outline, rest, scope, deeper)?;
+            let (second, rest) = run_expression(run, outlined, rest, scope, deeper)?;
             let second_passes = run.passes;
             run.choose(first_passes, second_passes, guard);
             Some((if guard { first } else { second }, rest))
         }
         Command::Let => {
-            let (bound, rest) = run_expression(run, outline, rest, scope, deeper)?;
+            let (bound, rest) = run_expression(run, outlined, rest, scope, deeper)?;
             let mut names = *scope;
             if names.is_full() {
                 return None;
             }
             names.push(bound);
-            run_expression(run, outline, rest, &names, deeper)
+            run_expression(run, outlined, rest, &names, deeper)
         }
     }
 }

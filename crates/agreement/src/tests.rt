@@ -7,6 +7,7 @@ use compiling::forming::Compiled;
 use compiling::programs::compile_main;
 use compiling::questions::compile_question;
 use diagram::{MemoItem, Node, Table};
+use language::outline::OutlinedProgram;
 use language::unfolding::unfold_main;
 use std::process::Abort;
 use std::test::Fail;
@@ -14,13 +15,16 @@ use std::test::Fail;
 // The value of a program's run, and whether it passes.
 fn run_main(program: &[u8], outcomes: &[bool]) -> Option<(Value, bool)> {
     let unfolded = unfold_main(program).ok()?;
-    let outline = unfolded.typed.outline;
+    let outlined = OutlinedProgram {
+        program,
+        outline: &unfolded.typed.outline,
+    };
     let mut run = Run {
         outcomes,
         next: 0,
         passes: true,
     };
-    let (value, _) = run_expression(&mut run, &outline, outline.main_part(), &no_names(), 4096)?;
+    let (value, _) = run_expression(&mut run, &outlined, outlined.main_part(), &no_names(), 4096)?;
     Some((value, run.passes))
 }
 
@@ -75,7 +79,11 @@ fn program_agrees(rt: &impl Abort, program: &[u8]) -> Result<(), Fail> {
     let mut memo = [MemoItem::BLANK; 512];
     let mut table = Table::new(&mut nodes, &mut memo);
     let unfolded = unfold_main(program)?;
-    let model = compile_main(&mut table, &unfolded.typed.outline)?;
+    let outlined = OutlinedProgram {
+        program,
+        outline: &unfolded.typed.outline,
+    };
+    let model = compile_main(&mut table, &outlined)?;
     for number in 0..256u32 {
         let outcomes = outcomes_of(number);
         match run_main(program, &outcomes) {
@@ -92,7 +100,11 @@ fn question_agrees(rt: &impl Abort, program: &[u8], pattern: &[u8]) -> Result<()
     let mut memo = [MemoItem::BLANK; 512];
     let mut table = Table::new(&mut nodes, &mut memo);
     let unfolded = unfold_main(program)?;
-    let model = compile_main(&mut table, &unfolded.typed.outline)?;
+    let outlined = OutlinedProgram {
+        program,
+        outline: &unfolded.typed.outline,
+    };
+    let model = compile_main(&mut table, &outlined)?;
     let reference = compile_question(&mut table, &model.main, pattern)?;
     for number in 0..256u32 {
         let outcomes = outcomes_of(number);
@@ -183,4 +195,15 @@ fn many_flips(rt: HostRuntime) -> Result<(), Fail> {
         program.extend_from_slice(&[9, 0, 0])?;
     }
     all_agrees(&rt, program.as_slice(), 1)
+}
+
+// What was found of a program is kept while its bytes are changed: a flip, and then no command.
+#[test]
+fn found_while_bytes_change(rt: HostRuntime) -> Result<(), Fail> {
+    let mut program = [0, 5, 0];
+    let found = unfold_main(&program)?;
+    program[1] = 10;
+    assert!(rt; found.figures.flips == 1);
+    assert!(rt; unfold_main(&program).is_err());
+    Ok(())
 }
