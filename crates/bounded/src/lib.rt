@@ -27,6 +27,7 @@ impl<T: Copy, const N: usize> Copy for Bounded<T, N> {}
 
 impl<T: Copy, const N: usize> Clone for Bounded<T, N> {
     ghost is_clone = { λ a b. b ≡ a };
+
     ghost is_infallible = { λ _. ⊤ };
 
     fn clone(&self) -> Result<Bounded<T, N>, AllocError> {

@@ -34,7 +34,9 @@ impl<'p> Rest<'p> {
         self.whole - self.bytes.len()
     }
 
-    // The command at the front, and what is left behind it.
+    // The command at the front, and what is left behind it. Each walk over a program takes this step for each command: inline, what is
+    // left stays in registers.
+    #[inline(always)]
     pub fn next_command(self) -> Result<(Command, Rest<'p>), ReadFault>
         ensures gives { Follows Same self.entry.whole result (command_from self.entry.whole self.entry.bytes.now) }
         ensures shorter { IfOk result (λ x. length x.1.bytes.now < length self.entry.bytes.now) }

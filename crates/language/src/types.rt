@@ -19,7 +19,7 @@ pub const MOST_LEAVES: usize = 16;
 // A type of at most 16 leaves, as its bytes in a program.
 #[derive(Clone, Copy)]
 pub struct TypeCode {
-    bytes: Bounded<u8, 31>,
+    pub bytes: Bounded<u8, 31>,
 }
 
 // Equal by its bytes alone: places that are not in use do not count, so no derive.
