@@ -11,7 +11,8 @@ use std::io::Read;
 // One byte more than a program may have tells that an input is too long, however long it is.
 const MOST_READ: usize = 4097;
 
-// Reads into `front` until it is full or the input ends, and answers how many bytes there are.
+// Reads into `front` until it is full or the input ends, and answers how many bytes there are. A loop, since the library's
+// `read_to_end` allocates, and its `copy` does not say what an array then holds.
 fn read_front<R: Read>(input: &mut R, front: &mut [u8]) -> io::Result<usize>
     ensures within { IfOk result (λ n. n ≤ length front.new) }
     ensures bytes { IfOk result (λ n. IfSome (R.remaining input.old) (λ xs. take n front.new ≡ take (length front.old) xs)) }

@@ -9,6 +9,7 @@ pub mod inspecting;
 pub mod outline;
 pub mod reading;
 pub mod rest;
+pub mod slices;
 pub mod types;
 pub mod typing;
 pub mod unfolding;

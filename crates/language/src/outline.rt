@@ -25,7 +25,7 @@ pub struct Outline {
     pub main: usize,
 }
 
-// A program's bytes, and its outline, so that a place is never read in another program's bytes.
+// A program's bytes and its outline, handed on as one. That they belong together is for the clauses.
 #[derive(Clone, Copy)]
 pub struct OutlinedProgram<'p> {
     pub program: &'p [u8],

@@ -32,7 +32,7 @@ pub enum BookFault {
 }
 
 impl BookFault {
-    // The refusal that the fault stands for. No `Fault`: its layers are those of a program.
+    // The refusal that the fault stands for. Not the trait `Fault`, whose layers are a program's alone.
     pub fn refusal(&self) -> Refusal<Layer>
         ensures { result ≡ refusal_of_book self.now }
     {
@@ -88,7 +88,7 @@ pub enum CountFault {
 }
 
 impl CountFault {
-    // The refusal that the fault stands for. No `Fault`: its layers are those of a program.
+    // The refusal that the fault stands for. Not the trait `Fault`, whose layers are a program's alone.
     pub fn refusal(&self) -> Refusal<Layer>
         ensures { result ≡ refusal_of_count self.now }
     {

@@ -1,0 +1,3 @@
+// Lists of fixed length, written part by part.
+
+pub use bounded::put;
